@@ -99,6 +99,15 @@ def no_keys(field: str, read: list[Found]) -> Failure:
     return Failure(cause, id_for(item), (*path, at))
 
 
+def no_list(part: list[Found]) -> Failure:
+    """Why an over can go through none of a part's values."""
+    value, path = part[0]
+    fails = 'so this "over" always fails'
+    if isinstance(value, list):
+        return Failure(f"This is a list of {len(value):,} items here, {fails} (TooMany).", f"Write at most {MOST_ITEMS:,}.", path)
+    return Failure(f"This is {described(value)} here and no list, {fails} (NotAList).", "Write a list.", path)
+
+
 # ---- all terms
 
 
@@ -119,6 +128,8 @@ class Terms:
             if "prime" in taken:
                 self.prime(path, *taken["prime"])
         self.fields = dict.fromkeys(name for rows in self.rows.values() for row in rows for name in members(row.value))
+        for _, taken in steps(document):
+            self.fields |= dict.fromkeys(made(taken.get("eval")))
         for path, taken in steps(document):
             if "eval" in taken:
                 self.values(taken["eval"], (*path, "eval"))
@@ -133,8 +144,8 @@ class Terms:
         see = Place(failure.see) if failure.see else None
         self.warnings.append(Complaint(failure.cause, failure.right, route(path), Place(path), see))
 
-    def values(self, term: Json, path: Path) -> list[Found] | None:
-        """The values that a term may have, or None if they are unknown."""
+    def values(self, term: Json, path: Path, items: list[Found] | None = None) -> list[Found] | None:
+        """The values that a term may have, or None if they are unknown, by those that the item around it may have."""
         ((form, argument),) = term.items()
         path = (*path, form)
         if form == "value":
@@ -142,11 +153,23 @@ class Terms:
         if form == "load":
             self.look_up(argument[0], (*path, 0))
             return self.rows.get((argument[0], argument[1]))
+        if form == "item":
+            return items
         if form == "all":
             for number, part in enumerate(argument):
-                self.values(part, (*path, number))
+                self.values(part, (*path, number), items)
             return [Found([], path)]
-        part = self.values(argument[0], (*path, 0))
+        if form == "object":
+            for name, part in argument.items():
+                self.values(part, (*path, name), items)
+            return None
+        return self.onward(form, argument, self.values(argument[0], (*path, 0), items), path)
+
+    def onward(self, form: str, argument: Json, part: list[Found] | None, path: Path) -> list[Found] | None:
+        """The values of a term that goes on from those of a part."""
+        if form == "over":
+            self.values(argument[1], (*path, 1), self.items(part, path))
+            return [Found([], path)]
         if form == "pick":
             return self.picked(form, argument[1], part, path)
         # A table that isn't there comes first, since the rows of the right one may have the field.
@@ -157,6 +180,17 @@ class Terms:
         if read and not any(is_list_of_ids(found.value) for found in read):
             self.warn(no_keys(argument[1], read), (*path, 1))
         return [Found([], path)]
+
+    def items(self, part: list[Found] | None, path: Path) -> list[Found] | None:
+        """What the items of a part may be, or None if they are unknown."""
+        if part and not any(is_list(found.value) for found in part):
+            self.warn(no_list(part), (*path, 0))
+            return None
+        lists = [found for found in part or () if is_list(found.value)]
+        # The items of a list that a term makes are unknown, and an empty list never fails.
+        if not lists or not all(found.value for found in lists):
+            return None
+        return [Found(item, (*found.path, at)) for found in lists for at, item in enumerate(found.value)]
 
     def look_up(self, table: str, path: Path) -> None:
         """Warns of a table that isn't there, if no step primes a key of it."""
@@ -191,9 +225,22 @@ class Terms:
         return list(rows.values()) or None
 
 
+def is_list(value: Json) -> bool:
+    """Whether an over can go through a value."""
+    return isinstance(value, list) and len(value) <= MOST_ITEMS
+
+
 def is_list_of_ids(value: Json) -> bool:
     """Whether an each can go through a value."""
-    return isinstance(value, list) and len(value) <= MOST_ITEMS and all(map(is_id, value))
+    return is_list(value) and all(map(is_id, value))
+
+
+def made(part: Json) -> Iterator[str]:
+    """The names of the members of the objects that a term makes."""
+    if isinstance(part, dict) and isinstance(part.get("object"), dict):
+        yield from part["object"]
+    for inner in part.values() if isinstance(part, dict) else part if isinstance(part, list) else []:
+        yield from made(inner)
 
 
 def steps(document: Json) -> Iterator[tuple[Path, Json]]:

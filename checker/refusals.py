@@ -14,11 +14,12 @@ from typing import NamedTuple
 from jsonschema import Draft202012Validator, ValidationError, validators  # type: ignore[import]
 
 from checker.reading import Json, NotJson, Path, Place, read
-from checker.wording import SCHEMA, Complaint, capitalized, counted, described, form, listed, nearest, route, shown, words
+from checker.wording import SCHEMA, Complaint, capitalized, counted, described, form as form_of, listed, nearest, route, shown, words
 
 # What the schema doesn't say.
 MOST_BYTES = 1_048_576
 MOST_HEIGHT = 32
+MOST_AROUND = 2
 
 LIMITS = {"maxBatchSize": "BatchLimit", "maxCells": "CellLimit", "maxCalls": "CallLimit"}
 TABLE_FAULTS = ["Shape", "BadKey", "TextTooLong", "NotWhole", "DuplicateTable", "DuplicateKey"]
@@ -29,6 +30,7 @@ ELSEWHERE = {
     ("a table of version 1", "maxBatchSize"): 'To use it, set "version" to 2.',
     ("a plan file", "tableLimits"): 'Write "maxBatchSize" in each table that has a limit of its own.',
     ("a plan file of version 1", "tableLimits"): 'Set "version" to 2, and write "maxBatchSize" in each table that has a limit of its own.',
+    **{("a term", form): 'To use it, set "version" to 3.' for form in ("over", "item", "object")},
 }
 
 
@@ -214,7 +216,7 @@ def strange_members(error: ValidationError) -> Iterator[tuple[str, str, str]]:
         if name in error.schema["properties"]:
             continue
         near = meant_by(name, error.schema)
-        right = (f'Did you mean "{near}"? ' if near else "") + f"{title} is {form(error.schema)}."
+        right = (f'Did you mean "{near}"? ' if near else "") + f"{title} is {form_of(error.schema)}."
         right = ELSEWHERE.get((error.schema["title"], name), right)
         yield name, f"{title} has no member {shown(name)}.", right
 
@@ -241,23 +243,67 @@ def schema_findings(document: Json) -> Iterator[Finding]:
 
 def height(term: Json) -> int:
     """The height of a term with which nothing else is wrong."""
-    ((form, argument),) = term.items()
-    if form in ("value", "load"):
+    if form(term) in ("value", "load", "item"):
         return 1
-    parts = argument if form == "all" else argument[:1]
-    return 1 + max(map(height, parts), default=0)
+    return 1 + max((height(part) for _, part in parts(term)), default=0)
+
+
+def form(term: Json) -> str:
+    """The form of a term: the name of its one member."""
+    (name,) = term
+    return name
+
+
+def parts(term: Json) -> Iterator[tuple[Path, Json]]:
+    """The terms in a term, each with its path from there."""
+    ((name, argument),) = term.items()
+    if name == "object":
+        for member, part in argument.items():
+            yield (name, member), part
+    elif name not in ("value", "load", "item"):
+        for number, part in enumerate(argument if name == "all" else argument[: 2 if name == "over" else 1]):
+            yield (name, number), part
+
+
+def misplaced(term: Json, path: Path, bodies: int) -> Iterator[Complaint]:
+    """The items outside of any body, and the bodies in too many others, of a term in so many bodies."""
+    if form(term) == "item" and not bodies:
+        right = 'Write it in the second term of an "over", which takes each item of a list.'
+        yield Complaint("This item lies in no body.", right, route(path), Place(path))
+    for at, part in parts(term):
+        is_body = at == ("over", 1)
+        if is_body and bodies > MOST_AROUND:
+            cause, right = f"This body lies in {bodies} others.", f"Nest a body in at most {MOST_AROUND} others."
+            yield Complaint(cause, right, route((*path, *at)), Place((*path, *at)))
+        else:
+            yield from misplaced(part, (*path, *at), bodies + is_body)
+
+
+def evaluations(document: Json, ranks: set[tuple[int, ...]]) -> Iterator[tuple[int, int, Json]]:
+    """The terms of the steps with which nothing else is wrong, with the numbers of plan and step."""
+    for plan, steps in enumerate(document["plans"]):
+        for step, taken in enumerate(steps):
+            if (6, plan, step) not in ranks and "eval" in taken:
+                yield plan, step, taken["eval"]
+
+
+def misplaced_forms(document: Json, ranks: set[tuple[int, ...]]) -> Iterator[Finding]:
+    """The items and bodies at places where none may be."""
+    for plan, step, term in evaluations(document, ranks):
+        refusal = Refusal((6, plan, step), f"refused: plan {plan} step {step}")
+        for complaint in misplaced(term, ("plans", plan, step, "eval"), 0):
+            yield Finding(refusal, complaint)
 
 
 def high_terms(document: Json, ranks: set[tuple[int, ...]]) -> Iterator[Finding]:
-    """The terms that are too high, of the steps with which nothing else is wrong."""
-    for plan, steps in enumerate(document["plans"]):
-        for step, taken in enumerate(steps):
-            if (6, plan, step) in ranks or "eval" not in taken or (high := height(taken["eval"])) <= MOST_HEIGHT:
-                continue
-            path = ("plans", plan, step, "eval")
-            refusal = Refusal((7, plan, step), f"refused: too deep plan {plan} step {step}")
-            cause, right = f"You nest terms {high} deep.", f"Nest them at most {MOST_HEIGHT} deep."
-            yield Finding(refusal, Complaint(cause, right, route(path), Place(path)))
+    """The terms that are too high."""
+    for plan, step, term in evaluations(document, ranks):
+        if (high := height(term)) <= MOST_HEIGHT:
+            continue
+        path = ("plans", plan, step, "eval")
+        refusal = Refusal((7, plan, step), f"refused: too deep plan {plan} step {step}")
+        cause, right = f"You nest terms {high} deep.", f"Nest them at most {MOST_HEIGHT} deep."
+        yield Finding(refusal, Complaint(cause, right, route(path), Place(path)))
 
 
 def twice(names: Iterable[tuple[Path, str]], document: Json, refusal: Refusal, right: str) -> Iterator[Finding]:
@@ -316,6 +362,8 @@ def findings(document: bytes, has_database: bool = False) -> list[Finding]:
         if "script" in value:
             found += doubles_of_script(value)
         else:
+            found += misplaced_forms(value, ranks)
+            ranks = {finding.refusal.rank for finding in found}
             found += high_terms(value, ranks)
             if table_fault("Shape").rank not in ranks:
                 found += doubles(value)

@@ -120,6 +120,8 @@ def form(schema: Json) -> str:
 
 
 def object_form(schema: Json) -> str:
+    if "properties" not in schema:
+        return f"an object, each of its members {titled(schema['additionalProperties'])}"
     names = [json.dumps(name) for name in schema["properties"]]
     if schema.get("maxProperties") == 1:
         return f"an object with one member: {listed(names, 'or')}"

@@ -528,7 +528,7 @@ ROWS["other documents are no plan files"] = [
     refused("version", "null"),
     refused("version", "[1]"),
     refused("version", '{"tables":[],"plans":[[]]}'),
-    refused("version", '{"version":3,"tables":[],"plans":[[]]}'),
+    refused("version", '{"version":4,"tables":[],"plans":[[]]}'),
     refused("version", '{"version":1.0,"tables":[],"plans":[[]]}'),
     refused("version", '{"version":"1","tables":[],"plans":[[]]}'),
     refused("top", '{"version":1}'),
@@ -976,6 +976,190 @@ ROWS["in version 2 a batch of a plan file is of one table"] = [
     refused("limit BatchLimit", '{"version":2,"maxCells":0,"tables":[{"name":"t","rows":[],"maxBatchSize":0}],"plans":[[]]}'),
 ]
 
+# ---- version 3
+
+
+def plan_file_3(*terms, tables=USERS):
+    """A plan file of version 3 over tables, those of users if you give none: a plan of these terms."""
+    steps = ",".join(f'{{"eval":{term}}}' for term in terms)
+    return f'{{"version":3,"maxBatchSize":2,"tables":{tables},"plans":[[{steps}]]}}'
+
+
+def term_refused(term, about=None):
+    """The row of a plan file of version 3 whose second step is this term, which has no such form or has it at another place."""
+    return refused("plan 0 step 1", plan_file_3('{"value":1}', term, tables="[]"), about=about or term)
+
+
+def nested(count, inner):
+    """A term in so many bodies."""
+    return '{"over":[{"value":[[[[1]]]]},' + '{"over":[{"item":true},' * (count - 1) + inner + "]}" * count
+
+
+ITEM = '{"item":true}'
+FRIENDS = '{"each":[{"load":["user","u1"]},"friends","user"]}'
+NAME_OF_ITEM = '{"pick":[{"item":true},"name"]}'
+# The row of the user whose id is the item.
+USER_OF_ITEM = '{"follow":[{"object":{"id":{"item":true}}},"id","user"]}'
+
+ROWS["in version 3 a body goes over a list"] = [
+    answered(
+        "an object for each friend",
+        plan_file_3(f'{{"over":[{FRIENDS},{{"object":{{"name":{NAME_OF_ITEM},"is":{{"value":"friend"}}}}}}]}}'),
+        '0 0 ok [{"is":"friend","name":"Bob"},{"is":"friend","name":"Cy"}]',
+        "rounds 2",
+        'batch 0 [["user","u1"]] settled',
+        'batch 1 [["user","u2"],["user","u3"]] settled',
+        command_lines=BATCHES,
+    ),
+    answered(
+        "all copies load in one round, each key once",
+        plan_file_3(f'{{"over":[{{"value":["u3","u2","u3"]}},{{"pick":[{USER_OF_ITEM},"name"]}}]}}'),
+        '0 0 ok ["Cy","Bob","Cy"]',
+        "rounds 1",
+        'batch 0 [["user","u3"],["user","u2"]] settled',
+        command_lines=BATCHES,
+    ),
+    answered(
+        "the names of the friends of each of a list",
+        plan_file_3(
+            '{"over":[{"value":[{"friends":["u1","u2"]},{"friends":[]}]},'
+            f'{{"over":[{{"each":[{{"item":true}},"friends","user"]}},{NAME_OF_ITEM}]}}]}}'
+        ),
+        '0 0 ok [["Ada","Bob"],[]]',
+    ),
+    answered(
+        "a body in a body has an item of its own",
+        plan_file_3(f'{{"over":[{{"value":[[1,2],[3]]}},{{"over":[{ITEM},{{"all":[{ITEM}]}}]}}]}}'),
+        "0 0 ok [[[1],[2]],[[3]]]",
+    ),
+    answered(
+        "the part of an over in a body has the item around it",
+        plan_file_3(f'{{"over":[{{"value":[[1],[2]]}},{{"all":[{{"over":[{ITEM},{{"value":0}}]}},{ITEM}]}}]}}'),
+        "0 0 ok [[[0],[1]],[[0],[2]]]",
+    ),
+    answered("a body in two others", plan_file_3(nested(3, ITEM)), "0 0 ok [[[[1]]]]"),
+    answered("no items", plan_file_3('{"over":[{"value":[]},{"load":["user","u1"]}]}'), "0 0 ok []", "rounds 0", command_lines=BATCHES),
+    answered(
+        "an object of no members, and one whose name is there twice",
+        plan_file_3('{"object":{}}', '{"object":{"a":5,"a":{"value":1}}}'),
+        "0 0 ok {}",
+        '0 1 ok {"a":1}',
+    ),
+    answered(
+        "members in the order of their names",
+        plan_file_3('{"object":{"b":{"value":1},"":{"value":2},"a":{"value":3},"B":{"value":4}}}'),
+        '0 0 ok {"":2,"B":4,"a":3,"b":1}',
+    ),
+    answered("a field of an object", plan_file_3('{"pick":[{"object":{"a":{"load":["user","u3"]}}},"a"]}'), '0 0 ok {"name":"Cy"}'),
+    answered(
+        "as many items as there may be",
+        document(plan_file_3('{"over":[{"value":[', tables="[]")[: -len("}]]}")], ("1,", 1_023), f'1]}},{{"value":0}}]}}}}]]}}'),
+        f"0 0 ok [{','.join('0' * 1_024)}]",
+    ),
+    answered(
+        "a term of height 32",
+        document('{"version":3,"tables":[],"plans":[[{"eval":{"over":[{"value":[1]},', ('{"all":[', 30), ITEM, ("]}", 30), "]}}]]}"),
+        f"0 0 ok [{'[' * 30}1{']' * 30}]",
+    ),
+    answered(
+        "a table with a limit of its own",
+        plan_file_3('{"all":[{"load":["t","a"]},{"load":["t","b"]}]}', tables='[{"name":"t","maxBatchSize":1,"rows":[["a",1],["b",2]]}]'),
+        "0 0 ok [1,2]",
+        "rounds 1",
+        'batch 0 [["t","a"]] settled',
+        'batch 1 [["t","b"]] settled',
+        command_lines=BATCHES,
+    ),
+]
+
+ROWS["in version 3 a body or a member may have a fault"] = [
+    answered(
+        "no list, and an item that has no such field",
+        plan_file_3('{"over":[{"value":{}},{"item":true}]}', f'{{"over":[{{"value":[{{"name":1}},2,{{}}]}},{NAME_OF_ITEM}]}}'),
+        "0 0 fault NotAList",
+        "0 1 fault NoField",
+    ),
+    answered(
+        "a fault of the part comes first",
+        plan_file_3('{"over":[{"load":["user","u9"]},{"pick":[{"value":1},"x"]}]}'),
+        '0 0 fault key ["user","u9"] "gone"',
+    ),
+    answered(
+        "too many items",
+        document(plan_file_3('{"over":[{"value":[', tables="[]")[: -len("}]]}")], ("1,", 1_024), f'1]}},{{"value":0}}]}}}}]]}}'),
+        "0 0 fault TooMany",
+    ),
+    answered(
+        "the leftmost item that fails counts, and all are loaded",
+        plan_file_3(f'{{"over":[{{"value":["u7","u9","u1"]}},{USER_OF_ITEM}]}}'),
+        '0 0 fault key ["user","u7"] "no row"',
+        "rounds 1",
+        'batch 0 [["user","u7"],["user","u9"]] settled',
+        'batch 1 [["user","u1"]] settled',
+        command_lines=BATCHES,
+    ),
+    answered(
+        "of an object the first name that fails counts",
+        plan_file_3('{"object":{"b":{"pick":[{"value":1},"x"]},"a":{"over":[{"value":1},{"value":2}]}}}'),
+        "0 0 fault NotAList",
+    ),
+    answered("an item that is no id", plan_file_3(f'{{"over":[{{"value":["u1",1]}},{USER_OF_ITEM}]}}'), "0 0 fault NotAKey"),
+]
+
+ROWS["in version 3 a form has its place"] = [
+    term_refused(ITEM),
+    term_refused('{"over":[{"item":true},{"value":1}]}'),
+    term_refused('{"object":{"a":{"item":true}}}'),
+    term_refused('{"all":[{"over":[{"value":[1]},{"item":true}]},{"pick":[{"item":true},"a"]}]}'),
+    term_refused(nested(4, '{"value":1}'), about="a body in three others"),
+    *(term_refused(f'{{"over":[{{"value":[1]}},{{"item":{argument}}}]}}') for argument in ("false", "1", "null", "[]")),
+    *(
+        term_refused(f'{{"over":{argument}}}')
+        for argument in ("1", "{}", "[]", '[{"value":[1]}]', '[{"value":[1]},{"value":1},{"value":1}]', '[{"value":[1]},1]')
+    ),
+    *(
+        term_refused(f'{{"object":{argument}}}')
+        for argument in ("1", "[]", '[["a",{"value":1}]]', '{"a":1}', '{"a":{"value":1},"b":{"value":1.5}}')
+    ),
+    term_refused('{"object":{"a":{"value":1}},"all":[]}'),
+    # the versions before don't have these forms
+    *(
+        refused("plan 0 step 0", f'{{"version":{version},"tables":[],"plans":[[{{"eval":{term}}}]]}}')
+        for version in (1, 2)
+        for term in ('{"over":[{"value":[]},{"value":1}]}', '{"object":{}}', ITEM, '{"all":[{"object":{}}]}')
+    ),
+    # of two causes the first
+    refused(
+        "plan 0 step 1",
+        '{"version":3,"tables":5,"plans":[[{"eval":',
+        ('{"all":[', 32),
+        '{"value":1}',
+        ("]}", 32),
+        '},{"eval":{"item":true}}]]}',
+        about="a term too high, and then an item in no body",
+    ),
+    refused(
+        "plan 0 step 0",
+        '{"version":3,"tables":[],"plans":[[{"eval":',
+        ('{"all":[', 32),
+        ITEM,
+        ("]}", 32),
+        "}]]}",
+        about="an item in no body in a term too high",
+    ),
+    refused(
+        "too deep plan 0 step 0",
+        '{"version":3,"tables":[],"plans":[[{"eval":{"over":[{"value":[1]},',
+        ('{"all":[', 31),
+        ITEM,
+        ("]}", 31),
+        "]}}]]}",
+        about="a body of height 32",
+    ),
+    refused("version", '{"version":4,"script":3,"tables":[],"plans":[[]]}'),
+    refused("top", '{"version":3,"tableLimits":[],"tables":[],"plans":[[]]}'),
+]
+
 # What a table's number can't be, and numbers that no limit may be.
 NO_NUMBERS = ('"1"', "1.5", "null", "18446744073709551616", "[1]")
 NO_LIMITS = ("0", "-1", "65537", "18446744073709551615", "-9223372036854775808")
@@ -1194,10 +1378,12 @@ ROWS["the most that may be"] = [
 
 # ---- migration
 
-# How a document is refused that is to be migrated and is no plan file of version 1. The checker has nothing against it.
+# How a document is refused that is to be migrated and is no plan file of an earlier version. The checker has nothing against it.
 NOT_VERSION_1 = "refused: not version 1\n"
+NOT_VERSION_1_OR_2 = "refused: not version 1 or 2\n"
 
-MIGRATE = ("migrate", "--batches --workers 16 migrate")
+MIGRATE = ("migrate", "--batches --workers 16 migrate", "migrate --to 2")
+MIGRATE_3 = ("migrate --to 3", "--workers 1 migrate --to=3")
 
 NOTHING = '{"version":1,"tables":[],"plans":[[]]}'
 NOTHING_2 = '{"plans":[[]],"tables":[],"version":2}'
@@ -1217,9 +1403,19 @@ def migrated(about, text, output):
     return Row(about, document(text), MIGRATE, output=output)
 
 
+def migrated_3(about, text, output):
+    """The row of a plan file of version 1 or 2 that is written as this text of version 3."""
+    return Row(about, document(text), MIGRATE_3, output=output)
+
+
 def not_version_1(about, text):
     """The row of another document, which isn't migrated."""
     return Row(about, document(text), MIGRATE, status=1, error=NOT_VERSION_1)
+
+
+def not_version_1_or_2(about, text):
+    """The same of version 3."""
+    return Row(about, document(text), MIGRATE_3, status=1, error=NOT_VERSION_1_OR_2)
 
 
 ROWS["a plan file of version 1 is migrated"] = [
@@ -1239,7 +1435,26 @@ ROWS["a plan file of version 1 is migrated"] = [
     not_version_1("a file that was migrated", NOTHING_2),
     not_version_1("a script of version 2", '{"script":2,"calls":[]}'),
     not_version_1("a table with a limit of its own", plan_file_2(SHOP_AND_U13, "1")),
+    not_version_1("a plan file of version 3", '{"version":3,"tables":[],"plans":[[]]}'),
     Row("no bytes", b"", MIGRATE, status=1, error="refused: not json\n"),
+]
+
+ROWS["a plan file of version 1 or 2 is migrated to version 3"] = [
+    migrated_3("no tables, and a plan of no steps", NOTHING, NOTHING_2.replace("2}", "3}")),
+    migrated_3("a file that was migrated to version 2", NOTHING_2, NOTHING_2.replace("2}", "3}")),
+    migrated_3("four plans", plan_file(FOUR), FOUR_2.replace('"version":2', '"version":3')),
+    migrated_3("four plans of version 2", FOUR_2, FOUR_2.replace('"version":2', '"version":3')),
+    answered("four plans, migrated to version 3", FOUR_2.replace('"version":2', '"version":3'), *LINES_OF_FOUR, command_lines=PLAIN),
+    migrated_3(
+        "tables with limits of their own",
+        '{"version":2,"tables":[{"name":"t","maxBatchSize":1,"rows":[["b",-2]]},{"rows":[],"name":"s"}],"plans":[[]]}',
+        '{"plans":[[]],"tables":[{"maxBatchSize":1,"name":"t","rows":[["b",-2]]},{"name":"s","rows":[]}],"version":3}',
+    ),
+    not_version_1_or_2("a plan file of version 3", '{"version":3,"tables":[],"plans":[[]]}'),
+    not_version_1_or_2("a script", '{"script":1,"calls":[]}'),
+    not_version_1_or_2("a script of version 2", '{"script":2,"calls":[]}'),
+    Row("no bytes", b"", MIGRATE_3, status=1, error="refused: not json\n"),
+    Row("no version", b'{"version":4,"tables":[],"plans":[[]]}', MIGRATE_3, status=1, error="refused: version\n"),
 ]
 
 # ---- the program
@@ -1268,7 +1483,7 @@ ROWS["a run ends with its status"] = [
         "help of migrate",
         LOAD,
         ("migrate --help", "migrate -h", "help migrate", "--batches help migrate"),
-        output=Holding("Writes a plan file of version 1 as one of version 2", ("Usage: plans migrate", "--help")),
+        output=Holding("Writes a plan file of version 1 as one of version 2", ("Usage: plans migrate", "--to <N>", "[default: 2]", "--help")),
         is_read=False,
     ),
     Row("the version", LOAD, ("--version", "-V", "--batches --version"), output=Holding("plans ", ("\n",)), is_read=False),
@@ -1290,6 +1505,10 @@ ROWS["a run ends with its status"] = [
     usage("workers behind migrate", "migrate --workers 3", "unexpected argument '--workers' found", "Usage: plans migrate"),
     usage("a word behind migrate", "migrate script.json", "unexpected argument 'script.json' found", "Usage: plans migrate"),
     usage("no workers, and migrate", "--workers 0 migrate", "--workers takes a number from 1 to 16", "Usage: plans"),
+    usage("a version that is not to be written", "migrate --to 1", "--workers takes a number from 1 to 16, and --to 2 or 3", "Usage: plans"),
+    usage("a version that isn't there", "migrate --to 4", "--workers takes a number from 1 to 16, and --to 2 or 3", "Usage: plans"),
+    usage("two versions to write", "migrate --to 2 --to 3", "the argument '--to <N>' cannot be used multiple times"),
+    usage("a version to write, and no migrate", "--to 3", "unexpected argument '--to' found", "Usage: plans"),
     # The byte 255.
     usage("a word that is no UTF-8", "\udcff", "invalid UTF-8 was detected in one or more arguments", "Usage: plans"),
     usage("a number that is no UTF-8", "--workers \udcff", "invalid UTF-8 was detected in one or more arguments", "Usage: plans"),
@@ -1311,7 +1530,7 @@ EXPLAINED_TABLES = (
     '"errors":[["u7","it\\n\\"is\\" gone"]],"breaks":[["u13","db down"]]}]'
 )
 U1_NAME = '{"pick":[{"load":["user","u1"]},"name"]}'
-U1, U2, U3 = (f'{{"load":["user","u{number}"]}}' for number in (1, 2, 3))
+U1, U2, U3, U4 = (f'{{"load":["user","u{number}"]}}' for number in (1, 2, 3, 4))
 NO_ROW = 'key ["user","u9"] "no row"'
 MET_NO_ROW = 'met the error "no row" of ["user","u9"]'
 NEEDS = {
@@ -1324,20 +1543,19 @@ NEEDS = {
 }
 
 
-def explained_file(*plans):
+def explained_file(*plans, version=1):
     """A plan file over these tables. A plan is its steps, and a step that is no text of its own is a term."""
-    return '{"version":1,"tables":%s,"plans":[%s]}' % (EXPLAINED_TABLES, ",".join(f"[{','.join(plan)}]" for plan in plans))
+    return '{"version":%d,"tables":%s,"plans":[%s]}' % (version, EXPLAINED_TABLES, ",".join(f"[{','.join(plan)}]" for plan in plans))
 
 
 def evaluation(term):
     return '{"eval":%s}' % term
 
 
-def explained(about, term, fault, place, met):
+def explained(about, term, fault, place, met, needs=None, version=1):
     """The row of a term with this fault, which comes from this place in the term, where the part met this."""
-    needs = NEEDS[fault.split(" ")[0]]
-    error = f"plan 0 step 0: eval{place}: {met}, and needs {needs}\n"
-    text = document(explained_file([evaluation(term)]))
+    error = f"plan 0 step 0: eval{place}: {met}, and needs {needs or NEEDS[fault.split(' ')[0]]}\n"
+    text = document(explained_file([evaluation(term)], version=version))
     return Row(about, text, EXPLAIN, output=f"0 0 fault {fault}\n", error=error)
 
 
@@ -1493,6 +1711,68 @@ ROWS["a fault is explained"] = [
         '{"each":[{"pick":[{"follow":[{"pick":[{"all":[{"load":["user","u9"]}]},"a"]},"b","user"]},"c"]},"d","user"]}',
         NO_ROW,
         ".each[0].pick[0].follow[0].pick[0].all[0]",
+        f"load {MET_NO_ROW}",
+    ),
+]
+
+
+def explained_3(about, term, fault, place, met, needs=None):
+    """The same in version 3."""
+    return explained(about, term, fault, place, met, needs, version=3)
+
+
+FRIENDS = '{"each":[%s,"ids","user"]}' % U1
+ROWS["a fault in a body or a member is explained"] = [
+    explained_3("an over of no list", '{"over":[%s,{"item":true}]}' % U1_NAME, "NotAList", "", 'over met "Ada"', "a list"),
+    explained_3("an over of too many", '{"over":[{"pick":[%s,"many"]},{"item":true}]}' % U3, "TooMany", "", "over met 1025 items"),
+    explained_3(
+        "an over whose part fails",
+        '{"over":[{"pick":[%s,"names"]},{"load":["user","u9"]}]}' % U4,
+        "NoField",
+        ".over[0]",
+        'pick "names" met 7',
+    ),
+    explained_3(
+        "the second item of an over",
+        '{"over":[%s,{"follow":[{"item":true},"best","user"]}]}' % FRIENDS,
+        "NotAKey",
+        ".over[1] at [0]",
+        'follow "best" met ""',
+    ),
+    explained_3(
+        "the first of the items that fail",
+        '{"over":[{"value":[{"a":1},{"b":2},{}]},{"pick":[{"item":true},"a"]}]}',
+        "NoField",
+        ".over[1] at [1]",
+        'pick "a" met {"b":2}',
+    ),
+    explained_3(
+        "a body in a body",
+        '{"over":[{"value":[["u1"],["u2","u9"]]},{"over":[{"item":true},{"pick":[{"follow":[{"object":{"id":{"item":true}}},"id","user"]},"name"]}]}]}',
+        NO_ROW,
+        ".over[1] at [1].over[1] at [1].pick[0]",
+        f'follow "id" {MET_NO_ROW}',
+    ),
+    explained_3(
+        "an item that is no list",
+        '{"over":[{"value":[[],1]},{"over":[{"item":true},{"item":true}]}]}',
+        "NotAList",
+        ".over[1] at [1]",
+        "over met 1",
+        "a list",
+    ),
+    explained_3(
+        "the first member that fails, by its name",
+        '{"object":{"b":{"load":["user","u9"]},"a":{"pick":[{"value":2},"x"]},"A":{"value":1}}}',
+        "NoField",
+        ".object.a",
+        'pick "x" met 2',
+    ),
+    explained_3(
+        "a member whose name is no word",
+        '{"all":[{"object":{"a \\"b\\"":{"object":{"":{"load":["user","u9"]}}}}}]}',
+        NO_ROW,
+        r'.all[0].object["a \"b\""].object[""]',
         f"load {MET_NO_ROW}",
     ),
 ]

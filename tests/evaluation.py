@@ -6,7 +6,7 @@ It shares nothing with the program, and refuses no document.
 import json
 from typing import NamedTuple
 
-# The most of a key's id in bytes, and of an `each` in items.
+# The most of a key's id in bytes, and of an `each` or an `over` in items.
 ID_BYTES = 256
 ITEMS = 1_024
 
@@ -29,6 +29,10 @@ class Answer(NamedTuple):
 
     is_fault: bool
     value: object
+
+
+# The item of a term that lies in no body.
+NO_ITEM = Answer(True, "NoItem")
 
 
 class Batch:
@@ -85,7 +89,7 @@ class Limits(NamedTuple):
         """Those of a plan file."""
         tables = {table["name"]: table["maxBatchSize"] for table in file["tables"] if "maxBatchSize" in table}
         limits = (file.get(name, LIMIT) for name in ("maxBatchSize", "maxCells", "maxCalls"))
-        return cls(*limits, tables if file["version"] == 2 else None)
+        return cls(*limits, tables if file["version"] > 1 else None)
 
 
 class Loader:
@@ -186,12 +190,14 @@ class Evaluation:
         self.known, self.wanted, self.rounds = {}, [], 0
         # Of the last look at the term: how many loads it met, and the parts that wait.
         self.met, self.parts = 0, []
+        # In bodies, the places of the items around a part.
+        self.places = []
 
     def answer(self):
         """Loads what the term waits for, round by round, until it has an answer."""
         while True:
             self.wanted, self.met, self.parts = [], 0, []
-            answer = self.explore(self.term)
+            answer = self.explore(self.term, NO_ITEM)
             if not self.wanted:
                 self.loader.asked += self.met
                 return answer
@@ -200,18 +206,49 @@ class Evaluation:
             self.known |= self.loader.load_many(self.wanted)
             self.rounds += 1
 
-    def explore(self, term):
-        """The answer of a term from what is known, or None if it waits for keys, which it then wants."""
+    def explore(self, term, item=NO_ITEM):
+        """The answer of a term from what is known and the item around it, or None if it waits for keys, which it then wants."""
         ((form, argument),) = term.items()
         if form == "value":
             return Answer(False, argument)
+        if form == "item":
+            return item
         if form == "load":
             return self.noted(f"load {'/'.join(argument)}", self.look(tuple(argument)))
         if form == "all":
-            return joined([self.explore(part) for part in argument])
-        part = self.explore(argument[0])
+            return joined([self.explore(part, item) for part in argument])
+        if form == "object":
+            return self.object_of(argument, item)
+        part = self.explore(argument[0], item)
         if part is None or part.is_fault:
             return part
+        if form == "over":
+            return self.over(part.value, argument[1])
+        return self.go_on(form, part, argument)
+
+    def object_of(self, members, item):
+        """The object of what the members' parts give, in the order of their names."""
+        names = sorted(members)
+        parts = joined([self.explore(members[name], item) for name in names])
+        if parts is None or parts.is_fault:
+            return parts
+        return Answer(False, dict(zip(names, parts.value)))
+
+    def over(self, items, body):
+        """What a body gives for each item of a list."""
+        if not isinstance(items, list):
+            return Answer(True, "NotAList")
+        if len(items) > ITEMS:
+            return Answer(True, "TooMany")
+        answers = []
+        for place, item in enumerate(items):
+            self.places.append(place)
+            answers.append(self.explore(body, Answer(False, item)))
+            self.places.pop()
+        return joined(answers)
+
+    def go_on(self, form, part, argument):
+        """What a pick, a follow or an each makes of its part's value."""
         if not isinstance(part.value, dict) or argument[1] not in part.value:
             return Answer(True, "NoField")
         field = part.value[argument[1]]
@@ -227,7 +264,8 @@ class Evaluation:
 
     def noted(self, part, answer):
         """The answer of a part, which waits if it has none."""
-        self.parts += [part] if answer is None else []
+        places = "".join(f"item {place}: " for place in self.places)
+        self.parts += [places + part] if answer is None else []
         return answer
 
     def load_id(self, table, key):

@@ -79,7 +79,7 @@ one_is no_members p h = absurd (none-some p h)
 one_is (member name d no_members) p h = let e : (name, d) ≡ p = cc in ap (λ (q : List ℕ × Data). one q.0 q.1) e
 one_is (member name d (member other e ms)) p h = absurd (none-some p h)
 
-object_of : (d : Data) (ms : Members) → as_object d ≡ Some ms → d ≡ object ms
+pub object_of : (d : Data) (ms : Members) → as_object d ≡ Some ms → d ≡ object ms
 object_of (object ns) ms h = let e : ns ≡ ms = cc in ap object e
 object_of d ms h = absurd (none-some ms h)
 
@@ -87,7 +87,7 @@ object_of d ms h = absurd (none-some ms h)
 pub one_found : (d : Data) (p : List ℕ × Data) → one_in d ≡ Some p → d ≡ one p.0 p.1
 one_found d p h = let q = from_and_then one_of (as_object d) p h in object_of d q.0 q.1 ∙ one_is q.0 p q.2
 
-true_is : (d : Data) → is_true d ≡ true → d ≡ boolean true
+pub true_is : (d : Data) → is_true d ≡ true → d ≡ boolean true
 true_is (boolean true) h = refl
 true_is d h = cc
 

@@ -6,11 +6,12 @@ use Rattle.serde_json.specs.Data.{Data, array, no_items, item}
 use Rattle.serde_json.specs.View.{items_of}
 use Rattle.dl_source.specs.Tables.{Tables}
 use Rattle.dl_source.proofs.Spelling.{tables_reader, numbered_tables_reader}
-use Rattle.dl_documents.specs.Document.{SpellsPlans}
+use Rattle.dl_documents.specs.Document.{SpellsPlans, forms_of}
 use Rattle.dl_documents.specs.OwnLimits.{version_by}
 use Rattle.dl_documents.specs.StepReading.{step_in}
 use Rattle.dl_documents.specs.Steps.{StepTree, step_tree, steps_tree, plan_tree, plans_tree, plan_view, IsPlanStep, IsPlan}
 use Rattle.dl_documents.specs.Tables.{SpellsTables}
+use Rattle.dl_documents.specs.declared.forms.Forms.{Forms}
 use Rattle.dl_documents.specs.declared.head.Version.{Version}
 use Rattle.dl_documents.specs.declared.head.Version.TheVariants.{First, Second}
 use Rattle.dl_documents.specs.declared.input.PlanFile.{PlanFile}
@@ -44,14 +45,14 @@ module _ {A : Type 0} (spell : A → Data) (Is : A → Type 0) (one : (x y : A) 
 
 -- ---- plans
 
-one_step : (s t : StepTree) → IsPlanStep s → IsPlanStep t → step_tree s ≡ step_tree t → s ≡ t
-one_step s t is also e = same_Some s t (sym (step_again s is) ∙ (ap step_in e ∙ step_again t also))
+one_step : (forms : Forms) (s t : StepTree) → IsPlanStep forms s → IsPlanStep forms t → step_tree s ≡ step_tree t → s ≡ t
+one_step forms s t is also e = same_Some s t (sym (step_again forms s is) ∙ (ap (step_in forms) e ∙ step_again forms t also))
 
-one_plan : (p q : List StepTree) → IsPlan p → IsPlan q → plan_tree p ≡ plan_tree q → p ≡ q
-one_plan p q is also e =
+one_plan : (forms : Forms) (p q : List StepTree) → IsPlan forms p → IsPlan forms q → plan_tree p ≡ plan_tree q → p ≡ q
+one_plan forms p q is also e =
     let both : array (steps_tree p) ≡ array (steps_tree q) = e in
     let items : steps_tree p ≡ steps_tree q = cc in
-    same_spelled step_tree IsPlanStep one_step p q is.steps also.steps (same_items (map step_tree p) (map step_tree q) items)
+    same_spelled step_tree (IsPlanStep forms) (one_step forms) p q is.steps also.steps (same_items (map step_tree p) (map step_tree q) items)
 
 -- ---- tables
 
@@ -81,5 +82,5 @@ one_plan_file d f g s t =
     let items : plans_tree ps ≡ plans_tree qs = same_Some (plans_tree ps) (plans_tree qs) (sym s.list ∙ t.list) in
     record {
       tables = one_tables v s.tables.tree f.tables g.tables here also;
-      plans = same_spelled plan_tree IsPlan one_plan ps qs s.plans t.plans (same_items (map plan_tree ps) (map plan_tree qs) items);
+      plans = same_spelled plan_tree (IsPlan (forms_of d)) (one_plan (forms_of d)) ps qs s.plans t.plans (same_items (map plan_tree ps) (map plan_tree qs) items);
     }

@@ -1,5 +1,5 @@
 -- The top of a document over a database.
-use Rattle.std.proofs.Common.{◌≡◌, ◌∙◌, ◌↔◌, refl, sym, ap, ℤ, pos, Bool, true, false, not, ◌&&◌, IsTrue, codes, is_some, option_map, Option, Some, None, true≢false}
+use Rattle.std.proofs.Common.{◌≡◌, ◌∙◌, ◌↔◌, refl, sym, ap, ℕ, ℤ, pos, Bool, true, false, not, ◌&&◌, IsTrue, codes, is_some, option_map, Option, Some, None, true≢false}
 use Rattle.std.proofs.Common.{if◌then◌else◌}
 use Rattle.std.proofs.lemmas.Bool.Decides.{Decides-int_eq}
 use Rattle.std.specs.Option.{is_none, option_map_or}
@@ -8,8 +8,8 @@ use Rattle.serde_json.specs.Data.{Data, array, no_items, object, put}
 use Rattle.serde_json.specs.Find.{get}
 use Rattle.serde_json.specs.View.{view}
 use Rattle.serde_json.specs.declared.value.Value.{Value}
-use Rattle.dl_documents.specs.Document.{is_script, version_number}
-use Rattle.dl_documents.specs.OverDatabase.{is_second, lacks_tables, over_database, read_as, with_no_tables}
+use Rattle.dl_documents.specs.Document.{has_number, is_script, version_number}
+use Rattle.dl_documents.specs.OverDatabase.{is_later, lacks_tables, over_database, read_as, with_no_tables}
 use Rattle.dl_documents.specs.Inside.Top.{IsApart, top_data, top_members, with_tables}
 use Rattle.dl_documents.specs.Inside.Trees.{object_data}
 use Rattle.dl_documents.specs.declared.top.Top.{Top}
@@ -21,15 +21,18 @@ false_unless : (b : Bool) → (b ≡ true → ⊥) → b ≡ false
 false_unless true h = absurd (h refl)
 false_unless false h = refl
 
-two_if : (b : Bool) (n : Option ℤ) → (IsTrue b ↔ (n ≡ Some (pos 2))) → option_map_or (int_eq (pos 2)) n false ≡ b
-two_if true n same = ap (λ (o : Option ℤ). option_map_or (int_eq (pos 2)) o false) (same.0 refl)
-two_if false None same = refl
-two_if false (Some z) same =
-    false_unless (int_eq (pos 2) z) (λ e. true≢false (sym (same.1 (ap (λ (y : ℤ). Some y) (sym ((Decides-int_eq (pos 2) z).0 e))))))
+same_number : (m : ℕ) → int_eq (pos m) (pos m) ≡ true
+same_number m = (Decides-int_eq (pos m) (pos m)).1 refl
+
+number_if : (m : ℕ) (b : Bool) (n : Option ℤ) → (IsTrue b ↔ (n ≡ Some (pos m))) → option_map_or (int_eq (pos m)) n false ≡ b
+number_if m true n same = ap (λ (o : Option ℤ). option_map_or (int_eq (pos m)) o false) (same.0 refl) ∙ same_number m
+number_if m false None same = refl
+number_if m false (Some z) same =
+    false_unless (int_eq (pos m) z) (λ e. true≢false (sym (same.1 (ap (λ (y : ℤ). Some y) (sym ((Decides-int_eq (pos m) z).0 e))))))
 
 -- the number of the version was tested
-pub second_if : (d : Data) (b : Bool) → (IsTrue b ↔ (version_number d ≡ Some (pos 2))) → is_second d ≡ b
-second_if d b same = two_if b (version_number d) same
+pub numbered_if : (m : ℕ) (d : Data) (b : Bool) → (IsTrue b ↔ (version_number d ≡ Some (pos m))) → has_number m d ≡ b
+numbered_if m d b same = number_if m b (version_number d) same
 
 none_if : {A : Type 0} (o : Option A) (none : Bool) → is_some o ≡ not none → is_none o ≡ none
 none_if None true h = refl
@@ -43,12 +46,12 @@ none_viewed (Some v) = refl
 
 -- the three tests were made
 pub lacks_if : (t : Top) (none script second : Bool) → IsApart t → is_some t.tables ≡ not none → is_script (top_data t) ≡ script
-    → is_second (top_data t) ≡ second → lacks_tables (top_data t) ≡ (none && (not script && second))
+    → is_later (top_data t) ≡ second → lacks_tables (top_data t) ≡ (none && (not script && second))
 lacks_if t none script second apart has is_one is_two =
     let absent : is_none (get (codes "tables") (top_data t)) ≡ none =
     ap is_none (tables_there t.tables (object_data t.members.items) apart) ∙ none_viewed t.tables ∙ none_if t.tables none has in
-    ap (λ (b : Bool). b && (not (is_script (top_data t)) && is_second (top_data t))) absent
-    ∙ ap (λ (b : Bool). none && (not b && is_second (top_data t))) is_one
+    ap (λ (b : Bool). b && (not (is_script (top_data t)) && is_later (top_data t))) absent
+    ∙ ap (λ (b : Bool). none && (not b && is_later (top_data t))) is_one
     ∙ ap (λ (b : Bool). none && (not script && b)) is_two
 
 and_no : (b : Bool) → (b && false) ≡ false
@@ -59,16 +62,16 @@ and_no false = refl
 pub lacks_none : (t : Top) (value none : Bool) → IsApart t → is_some t.tables ≡ not none → none ≡ false → value ≡ false → value ≡ lacks_tables (top_data t)
 lacks_none t value none apart has is unset =
     unset
-    ∙ sym (lacks_if t none (is_script (top_data t)) (is_second (top_data t)) apart has refl refl
-    ∙ ap (λ (b : Bool). b && (not (is_script (top_data t)) && is_second (top_data t))) is)
+    ∙ sym (lacks_if t none (is_script (top_data t)) (is_later (top_data t)) apart has refl refl
+    ∙ ap (λ (b : Bool). b && (not (is_script (top_data t)) && is_later (top_data t))) is)
 
 -- it is a script
 pub script_lacks : (t : Top) (value none script : Bool) → IsApart t → is_some t.tables ≡ not none → script ≡ is_script (top_data t) → value ≡ not script
     → value ≡ false → value ≡ lacks_tables (top_data t)
 script_lacks t value none script apart has is says unset =
     unset
-    ∙ sym (lacks_if t none script (is_second (top_data t)) apart has (sym is) refl
-    ∙ ap (λ (b : Bool). none && (b && is_second (top_data t))) (sym says ∙ unset)
+    ∙ sym (lacks_if t none script (is_later (top_data t)) apart has (sym is) refl
+    ∙ ap (λ (b : Bool). none && (b && is_later (top_data t))) (sym says ∙ unset)
     ∙ and_no none)
 
 -- ---- the top that counts

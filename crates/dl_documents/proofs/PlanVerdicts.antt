@@ -13,7 +13,7 @@ use Rattle.dl_source.specs.Faults as table
 use Rattle.dl_source.specs.Tables.{Tables}
 use Rattle.dl_source.specs.declared.table_number.TableNumber.{TableNumber}
 use Rattle.dl_source.specs.declared.fault.TableFault.{TableFault}
-use Rattle.dl_documents.specs.Document.{has_only_known, is_script, items_at, list_name}
+use Rattle.dl_documents.specs.Document.{forms_of, has_only_known, is_script, items_at, list_name}
 use Rattle.dl_documents.specs.Faults.{IsBadTop, HasStrange, LacksList, LacksTables, HasOtherCount}
 use Rattle.dl_documents.specs.Faults.{HasNoPlan, HasNoNumber, HasNoNumbers, IsNoStep, IsBadCall, IsPlanAt, IsStepAt, InTables}
 use Rattle.dl_documents.specs.Faults.{IsBadStep, IsDeepStep, IsLongPlan, IsBadTable, Causes, number, place, IsEarlier, IsLeast}
@@ -112,39 +112,39 @@ module _ (d : Data) (given : Head) (rows : List (List Data)) (tree : Data) (kind
       let one : first.row ≡ row = same_Some first.row row (sym first.there ∙ here) in
       first.in_row.first t x more.1 (ap (λ (r : List A). slice_get r t) one ∙ item) bad
 
-  earlier_shape : (p s : ℕ) → IsFirstIn IsNoStep rows p s → (g : PlanFault) → number g ≡ 6 → IsEarlier (place g) (p, s) → Causes d g → ⊥
+  earlier_shape : (p s : ℕ) → IsFirstIn (IsNoStep (forms_of d)) rows p s → (g : PlanFault) → number g ≡ 6 → IsEarlier (place g) (p, s) → Causes d g → ⊥
   earlier_shape p s first (Shape m t) same early c =
       let q = step_of m t c.0 c.1 in
-      none_earlier IsNoStep rows p s m t q.0 c.0 first early q.1 q.2 c.2
+      none_earlier (IsNoStep (forms_of d)) rows p s m t q.0 c.0 first early q.1 q.2 c.2
   earlier_shape p s first g same early c = omega arith
 
-  shape_applies : (p s : ℕ) → IsFirstIn IsNoStep rows p s → IsBadStep d p s
+  shape_applies : (p s : ℕ) → IsFirstIn (IsNoStep (forms_of d)) rows p s → IsBadStep d p s
   shape_applies p s first = (first.in_row.item, step_at p s first.row first.in_row.item first.there first.in_row.there, first.in_row.bad)
 
   -- the first tree that is no step
-  pub least_shape : (f : PlanFault) → IsFirstBadStep rows f → IsLeast (Causes d) f
+  pub least_shape : (f : PlanFault) → IsFirstBadStep (forms_of d) rows f → IsLeast (Causes d) f
   least_shape f h = rw h.names (least_of d (Shape h.plan h.step) (shape_applies h.plan h.step h.first) clear_6 (earlier_shape h.plan h.step h.first))
 
   -- ---- plans that were read
 
-  module _ (plans : List (List StepTree)) (read : AreRead rows plans) where
+  module _ (plans : List (List StepTree)) (read : AreRead (forms_of d) rows plans) where
     plan_of : (m : ℕ) (row : List Data) → slice_get rows m ≡ Some row
-        → (plan : List StepTree) × (slice_get plans m ≡ Some plan) × (row ≡ map step_tree plan) × AllByRecursion IsPlanStep plan
+        → (plan : List StepTree) × (slice_get plans m ≡ Some plan) × (row ≡ map step_tree plan) × AllByRecursion (IsPlanStep (forms_of d)) plan
     plan_of m row there =
         let p = from_item (map step_tree) plans m row (ap (λ (xs : List (List Data)). slice_get xs m) (sym read.trees) ∙ there) in
-        (p.0, p.1, p.2, all_at (AllByRecursion IsPlanStep) plans m p.0 read.steps p.1)
+        (p.0, p.1, p.2, all_at (AllByRecursion (IsPlanStep (forms_of d))) plans m p.0 read.steps p.1)
 
     row_of_plan : (m : ℕ) (plan : List StepTree) → slice_get plans m ≡ Some plan → slice_get rows m ≡ Some (map step_tree plan)
     row_of_plan m plan there = ap (λ (xs : List (List Data)). slice_get xs m) read.trees ∙ item_made (map step_tree) plans m plan there
 
     -- a tree at a place is that of the step there
     read_step : (m s : ℕ) (step : Data) → IsStepAt d m s step
-        → (plan : List StepTree) × (y : StepTree) × (slice_get plans m ≡ Some plan) × (slice_get plan s ≡ Some y) × (step ≡ step_tree y) × IsPlanStep y
+        → (plan : List StepTree) × (y : StepTree) × (slice_get plans m ≡ Some plan) × (slice_get plan s ≡ Some y) × (step ≡ step_tree y) × IsPlanStep (forms_of d) y
     read_step m s step h =
         let p = step_of m s step h in
         let q = plan_of m p.0 p.1 in
         let r = from_item step_tree q.0 s step (ap (λ (xs : List Data). slice_get xs s) (sym q.2) ∙ p.2) in
-        (q.0, r.0, q.1, r.1, r.2, all_at IsPlanStep q.0 s r.0 q.3 r.1)
+        (q.0, r.0, q.1, r.1, r.2, all_at (IsPlanStep (forms_of d)) q.0 s r.0 q.3 r.1)
 
     steps_pass : (m s : ℕ) → IsBadStep d m s → ⊥
     steps_pass m s h = let p = read_step m s h.0 h.1 in h.2 p.1 p.5 p.4
@@ -155,8 +155,8 @@ module _ (d : Data) (given : Head) (rows : List (List Data)) (tree : Data) (kind
     -- ---- heights
 
     -- a step has one tree
-    one_step : (x y : StepTree) → IsPlanStep x → IsPlanStep y → step_tree x ≡ step_tree y → x ≡ y
-    one_step x y a b e = same_Some x y (sym (step_again x a) ∙ (ap step_in e ∙ step_again y b))
+    one_step : (x y : StepTree) → IsPlanStep (forms_of d) x → IsPlanStep (forms_of d) y → step_tree x ≡ step_tree y → x ≡ y
+    one_step x y a b e = same_Some x y (sym (step_again (forms_of d) x a) ∙ (ap (step_in (forms_of d)) e ∙ step_again (forms_of d) y b))
 
     high_step : (m s : ℕ) → IsDeepStep d m s
         → (plan : List StepTree) × (y : StepTree) × (slice_get plans m ≡ Some plan) × (slice_get plan s ≡ Some y) × IsHigh y
@@ -167,7 +167,7 @@ module _ (d : Data) (given : Head) (rows : List (List Data)) (tree : Data) (kind
 
     deep : (m s : ℕ) (plan : List StepTree) (y : StepTree) → slice_get plans m ≡ Some plan → slice_get plan s ≡ Some y → IsHigh y → IsDeepStep d m s
     deep m s plan (eval t) there item high =
-        let is : IsPlanStep (eval t) = all_at IsPlanStep plan s (eval t) (all_at (AllByRecursion IsPlanStep) plans m plan read.steps there) item in (
+        let is : IsPlanStep (forms_of d) (eval t) = all_at (IsPlanStep (forms_of d)) plan s (eval t) (all_at (AllByRecursion (IsPlanStep (forms_of d))) plans m plan read.steps there) item in (
           step_tree (eval t),
           step_at m s (map step_tree plan) (step_tree (eval t)) (row_of_plan m plan there) (item_made step_tree plan s (eval t) item),
           record { term = t; is = is; spelled = refl; high = high },

@@ -23,6 +23,7 @@ use Rattle.dl_documents.specs.Reading.{call_in}
 use Rattle.dl_documents.specs.Script.{call_tree, IsScriptCall}
 use Rattle.dl_documents.specs.StepReading.{step_in}
 use Rattle.dl_documents.specs.Steps.{StepTree, step_tree, step_view, plan_view, IsPlanStep}
+use Rattle.dl_documents.specs.declared.forms.Forms.{Forms}
 use Rattle.dl_documents.specs.declared.fault.PlanFault.{PlanFault}
 use Rattle.dl_documents.specs.declared.fault.PlanFault.TheVariants.{BadCall, Shape}
 use Rattle.dl_desk.specs.declared.call.DeskCall.{DeskCall}
@@ -55,27 +56,27 @@ calls_stop front v rest vs calls n is size so_far none =
 -- ---- steps
 
 -- steps so far
-abbrev pub SpellSteps : List (Value Global) → List Step → Type 0
-SpellSteps vs steps = Spell tree_data step_tree IsPlanStep vs (map step_view steps)
+abbrev pub SpellSteps : Forms → List (Value Global) → List Step → Type 0
+SpellSteps forms vs steps = Spell tree_data step_tree (IsPlanStep forms) vs (map step_view steps)
 
-pub steps_more : (vs : List (Value Global)) (v : Value Global) (steps : List Step) (s : Step) → SpellSteps vs steps → Some (step_view s) ≡ step_in (tree_data v)
-    → SpellSteps (vs ++ v ∷ []) (steps ++ s ∷ [])
-steps_more vs v steps s so_far found =
-    let p = step_is (tree_data v) (step_view s) (sym found) in
-    rw (map-append step_view steps (s ∷ [])) (spell_next tree_data step_tree IsPlanStep vs v (map step_view steps) (step_view s) so_far p.tree p.is)
+pub steps_more : (forms : Forms) (vs : List (Value Global)) (v : Value Global) (steps : List Step) (s : Step) → SpellSteps forms vs steps → Some (step_view s) ≡ step_in forms (tree_data v)
+    → SpellSteps forms (vs ++ v ∷ []) (steps ++ s ∷ [])
+steps_more forms vs v steps s so_far found =
+    let p = step_is forms (tree_data v) (step_view s) (sym found) in
+    rw (map-append step_view steps (s ∷ [])) (spell_next tree_data step_tree (IsPlanStep forms) vs v (map step_view steps) (step_view s) so_far p.tree p.is)
 
 -- the first item that is no step
-pub steps_stop : (plan : ℕ) (front : List (Value Global)) (v : Value Global) (rest vs : List (Value Global)) (steps : List Step) (n : ℕ)
+pub steps_stop : (forms : Forms) (plan : ℕ) (front : List (Value Global)) (v : Value Global) (rest vs : List (Value Global)) (steps : List Step) (n : ℕ)
     → front ++ v ∷ rest ≡ vs → n ≡ length steps
-    → SpellSteps front steps → None ≡ step_in (tree_data v) → IsFirstBadIn plan (map tree_data vs) (Shape plan n)
-steps_stop plan front v rest vs steps n is size so_far none =
+    → SpellSteps forms front steps → None ≡ step_in forms (tree_data v) → IsFirstBadIn forms plan (map tree_data vs) (Shape plan n)
+steps_stop forms plan front v rest vs steps n is size so_far none =
     let place = place_of front v rest vs is in
-    let long : length front ≡ n = spell_size tree_data step_tree IsPlanStep front (map step_view steps) so_far ∙ length-map steps step_view ∙ sym size in
+    let long : length front ≡ n = spell_size tree_data step_tree (IsPlanStep forms) front (map step_view steps) so_far ∙ length-map steps step_view ∙ sym size in
     rw (← long) (record {
       step = length front;
       names = refl;
-      first = spell_stops tree_data step_tree IsPlanStep IsNoStep (λ s is bad. bad s is refl) vs (length front) v (map step_view steps) place.low place.at
-          (subst (λ l. SpellSteps l steps) (sym place.cut) so_far) (λ s is e. none-some s (none ∙ (ap step_in e ∙ step_again s is)));
+      first = spell_stops tree_data step_tree (IsPlanStep forms) (IsNoStep forms) (λ s is bad. bad s is refl) vs (length front) v (map step_view steps) place.low place.at
+          (subst (λ l. SpellSteps forms l steps) (sym place.cut) so_far) (λ s is e. none-some s (none ∙ (ap (step_in forms) e ∙ step_again forms s is)));
     })
 
 -- ---- plans
@@ -85,32 +86,32 @@ abbrev pub trees_of : Vec (Value Global) Global → List Data
 trees_of list = map tree_data list.items
 
 -- plans so far
-abbrev pub SpellPlans : List (Vec (Value Global) Global) → List Plan → Type 0
-SpellPlans lists plans = Spell trees_of (map step_tree) (AllByRecursion IsPlanStep) lists (map plan_view plans)
+abbrev pub SpellPlans : Forms → List (Vec (Value Global) Global) → List Plan → Type 0
+SpellPlans forms lists plans = Spell trees_of (map step_tree) (AllByRecursion (IsPlanStep forms)) lists (map plan_view plans)
 
-pub plans_more : (lists : List (Vec (Value Global) Global)) (list : Vec (Value Global) Global) (plans : List Plan) (p : Plan) → SpellPlans lists plans
-    → IsPlanOf (map tree_data list.items) (plan_view p) → SpellPlans (lists ++ list ∷ []) (plans ++ p ∷ [])
-plans_more lists list plans p so_far is =
+pub plans_more : (forms : Forms) (lists : List (Vec (Value Global) Global)) (list : Vec (Value Global) Global) (plans : List Plan) (p : Plan) → SpellPlans forms lists plans
+    → IsPlanOf forms (map tree_data list.items) (plan_view p) → SpellPlans forms (lists ++ list ∷ []) (plans ++ p ∷ [])
+plans_more forms lists list plans p so_far is =
     rw (map-append plan_view plans (p ∷ []))
-    (spell_next trees_of (map step_tree) (AllByRecursion IsPlanStep) lists list (map plan_view plans) (plan_view p) so_far is.trees is.steps)
+    (spell_next trees_of (map step_tree) (AllByRecursion (IsPlanStep forms)) lists list (map plan_view plans) (plan_view p) so_far is.trees is.steps)
 
 -- trees of steps have none that is no step
-no_bad : (steps : List StepTree) → AllByRecursion IsPlanStep steps → HasOne IsNoStep (map step_tree steps) → ⊥
-no_bad steps all has =
+no_bad : (forms : Forms) (steps : List StepTree) → AllByRecursion (IsPlanStep forms) steps → HasOne (IsNoStep forms) (map step_tree steps) → ⊥
+no_bad forms steps all has =
     let p = from_item step_tree steps has.0 has.1 has.2 in
-    has.3 p.0 (all_at IsPlanStep steps has.0 p.0 all p.1) p.2
+    has.3 p.0 (all_at (IsPlanStep forms) steps has.0 p.0 all p.1) p.2
 
 -- the first list with an item that is no step
-pub plans_stop : (front : List (Vec (Value Global) Global)) (list : Vec (Value Global) Global) (rest lists : List (Vec (Value Global) Global))
+pub plans_stop : (forms : Forms) (front : List (Vec (Value Global) Global)) (list : Vec (Value Global) Global) (rest lists : List (Vec (Value Global) Global))
     (plans : List Plan) (n : ℕ) (f : PlanFault)
-    → front ++ list ∷ rest ≡ lists → n ≡ length plans → SpellPlans front plans → IsFirstBadIn n (map tree_data list.items) f
-    → IsFirstBadStep (rows_view lists) f
-plans_stop front list rest lists plans n f is size so_far bad =
+    → front ++ list ∷ rest ≡ lists → n ≡ length plans → SpellPlans forms front plans → IsFirstBadIn forms n (map tree_data list.items) f
+    → IsFirstBadStep forms (rows_view lists) f
+plans_stop forms front list rest lists plans n f is size so_far bad =
     let place = place_of front list rest lists is in
-    let long : length front ≡ n = spell_size trees_of (map step_tree) (AllByRecursion IsPlanStep) front (map plan_view plans) so_far
+    let long : length front ≡ n = spell_size trees_of (map step_tree) (AllByRecursion (IsPlanStep forms)) front (map plan_view plans) so_far
     ∙ length-map plans plan_view
     ∙ sym size in
-    let read = subst (λ l. SpellPlans l plans) (sym place.cut) so_far in
+    let read = subst (λ l. SpellPlans forms l plans) (sym place.cut) so_far in
     record {
       plan = n;
       step = bad.step;
@@ -120,9 +121,9 @@ plans_stop front list rest lists plans n f is size so_far bad =
         there = rw (← long) (item_now trees_of lists (length front) list place.low place.at);
         in_row = bad.first;
         before = λ k r less there has.
-            (let p = spelled_before trees_of (map step_tree) (AllByRecursion IsPlanStep) lists (length front) k (map plan_view plans) r read
+            (let p = spelled_before trees_of (map step_tree) (AllByRecursion (IsPlanStep forms)) lists (length front) k (map plan_view plans) r read
             (rw long less) there in
-            no_bad p.0 p.2 (rw p.1 at has));
+            no_bad forms p.0 p.2 (rw p.1 at has));
       };
     }
 

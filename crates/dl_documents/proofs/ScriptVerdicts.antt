@@ -8,7 +8,7 @@ use Rattle.serde_json.specs.View.{items_of}
 use Rattle.dl_values.specs.declared.fault.LimitFault.TheVariants.{BatchLimit, CellLimit, CallLimit}
 use Rattle.dl_source.specs.declared.fault.TableFault.{TableFault}
 use Rattle.dl_source.specs.declared.table_number.TableNumber.{TableNumber}
-use Rattle.dl_documents.specs.Document.{SpellsScript, IsOfVersion, has_only_known, is_script, items_at, list_name}
+use Rattle.dl_documents.specs.Document.{SpellsScript, IsOfVersion, forms_of, has_only_known, is_script, items_at, list_name}
 use Rattle.dl_documents.specs.Faults.{IsBadTop, HasStrange, LacksList, LacksTables, HasOtherCount, HasNoPlan, HasNoNumber, HasNoNumbers}
 use Rattle.dl_documents.specs.Faults.{IsNoCall, IsBadCall, IsPlanAt, GivesNumbers, InScript}
 use Rattle.dl_documents.specs.Faults.{IsBadTable, Causes, number, place, IsEarlier, IsLeast}
@@ -129,8 +129,13 @@ module _ (d : Data) (h : Head) (ds : List Data) (ns : List TableNumber) (kind : 
 pub script_passes : (d : Data) (s : Script) → SpellsScript d s → (f : PlanFault) → Causes d f → ⊥
 script_passes d s spells =
     let v : Version = version_by s.table_limits in
-    let h : Head = record { version = v; numbers = numbers_of s.limits } in
-    let head : HasHead d h = record { version = spells.version; members = spells.members; numbers = are_given d s.limits spells.limits } in
+    let h : Head = record { version = v; forms = forms_of d; numbers = numbers_of s.limits } in
+    let head : HasHead d h = record {
+      version = spells.version;
+      forms = refl;
+      members = spells.members;
+      numbers = are_given d s.limits spells.limits;
+    } in
     let ns : List TableNumber = spells.own.given in
     let low : Clear d 10 = clear_10 d h (map call_tree s.calls) ns spells.kind head spells.list spells.own.numbers s.calls
     (record { trees = refl; calls = spells.calls }) in

@@ -1,17 +1,23 @@
 -- The terms of a list of a part and names, from what was read of the part.
-use Rattle.std.proofs.Common.{◌≡◌, ◌∙◌, refl, sym, ap, ℕ, ◌<◌, List, false, codes, bytes_eq, Option, Some, None, option_map, Box, Global, rules, arith}
-use Rattle.std.proofs.Math.Nat.{le-max_left}
+use Rattle.std.proofs.Common.{◌≡◌, ◌∙◌, refl, sym, ap, ℕ, ◌<◌, max, List, ◌∷◌, map, false, codes, bytes_eq, Option, Some, None, option_map, Box, Vec, Global, rules, arith}
+use Rattle.std.proofs.Common.{option_and_then}
+use Rattle.std.proofs.Math.Nat.{le-max_left, le-max_right}
 use Rattle.std.proofs.lemmas.Bool.{false_from_ne_true}
 use Rattle.std.proofs.lemmas.Slice.Eq.{bytes_eq-Decides}
 use Rattle.std.specs.Option.{option_zip}
-use Rattle.serde_json.specs.Data.{Data, string, array, Items, no_items, item, depth, items_depth}
-use Rattle.serde_json.specs.Find.{as_array}
-use Rattle.dl_terms.specs.Tree.{Name, Tree, pick, follow, each}
-use Rattle.dl_terms.specs.View.{term_view}
+use Rattle.json.specs.declared.value.Value.{Value}
+use Rattle.serde_json.specs.Data.{Data, string, array, Items, no_items, item, Members, no_members, member, depth, items_depth, members_depth}
+use Rattle.serde_json.specs.Find.{as_array, as_object}
+use Rattle.dl_terms.specs.Tree.{Name, Tree, pick, follow, each, over, named}
+use Rattle.dl_terms.specs.View.{term_view, terms_view, trees_of}
 use Rattle.dl_terms.specs.declared.term.Term.{Term, the_lemmas}
 use Rattle.dl_terms.specs.declared.term.Term.TheVariants as form
 use Rattle.dl_documents.proofs.TermLaws.{field_is, link_is}
-use Rattle.dl_documents.specs.TermReading.{field_in, link_in, first, picks, links, gathers, term_named, term_in, parts_in}
+use Rattle.dl_documents.proofs.Findings.{object_of, two_found}
+use Rattle.dl_documents.specs.Inside.Trees.{list_data}
+use Rattle.dl_documents.specs.Reading.{two_in}
+use Rattle.dl_documents.specs.TermReading.{field_in, link_in, first, second, together, picks, links, gathers, covers, names_of, values_of, assembles}
+use Rattle.dl_documents.specs.TermReading.{term_named, term_in, parts_in, parts_of, parts_under}
 
 -- ---- forms
 
@@ -114,7 +120,88 @@ differs a b h = false_from_ne_true (bytes_eq a b) (λ e. h ((bytes_eq-Decides a 
 
 -- another name is no term's
 pub other_name : (name : List ℕ) (d : Data) (parts : List (Option Tree)) → (name ≡ codes "value" → ⊥) → (name ≡ codes "load" → ⊥)
-    → (name ≡ codes "pick" → ⊥) → (name ≡ codes "follow" → ⊥) → (name ≡ codes "each" → ⊥) → (name ≡ codes "all" → ⊥) → None ≡ term_named name d parts
-other_name name d parts no_value no_load no_pick no_follow no_each no_all =
+    → (name ≡ codes "pick" → ⊥) → (name ≡ codes "follow" → ⊥) → (name ≡ codes "each" → ⊥) → (name ≡ codes "all" → ⊥) → (name ≡ codes "over" → ⊥)
+    → (name ≡ codes "item" → ⊥) → (name ≡ codes "object" → ⊥) → None ≡ term_named name d parts
+other_name name d parts no_value no_load no_pick no_follow no_each no_all no_over no_item no_object =
     rw (differs name _ no_value, differs name _ no_load, differs name _ no_pick)
-    (rw (differs name _ no_follow, differs name _ no_each, differs name _ no_all) refl)
+    (rw (differs name _ no_follow, differs name _ no_each, differs name _ no_all) (rw (differs name _ no_over, differs name _ no_item, differs name _ no_object) refl))
+
+-- ---- bodies and members
+
+pub term_view-Over : (part body : Box Term Global) → term_view (form.Over part body) ≡ over (term_view part.value) (term_view body.value)
+term_view-Over part body = search (rules, the_lemmas)
+
+-- what a part and a body make
+abbrev make_over : Option Tree → Option Tree → Option Tree
+make_over part body = option_map (λ q. over q.0 q.1) (option_zip part body)
+
+over_at : (d part body : Data) → Some (part, body) ≡ two_in d → make_over (term_in part) (term_in body) ≡ covers (parts_in d) d
+over_at d part body at = rw (two_found d (part, body) (sym at)) refl
+
+-- with no two items there is no over
+pub no_over : (d : Data) → None ≡ two_in d → None ≡ covers (parts_in d) d
+no_over d h = ap (option_and_then (λ p. make_over (first (parts_in d)) (second (parts_in d)))) h
+
+pub over_no_part : (d part body : Data) (read : Option (Box Term Global)) → Some (part, body) ≡ two_in d → IsRead read part → read ≡ None
+    → None ≡ covers (parts_in d) d
+over_no_part d part body read at is none = ap (λ o. make_over o (term_in body)) (read_none read part is none) ∙ over_at d part body at
+
+module _ (d part body : Data) (read : Option (Box Term Global)) (t : Box Term Global) (at : Some (part, body) ≡ two_in d) (is : IsRead read part)
+    (some : read ≡ Some t) (also : Option (Box Term Global)) (is_body : IsRead also body) where
+  with_part : make_over (Some (term_view t.value)) (term_in body) ≡ covers (parts_in d) d
+  with_part = ap (λ o. make_over o (term_in body)) (read_some read part t is some) ∙ over_at d part body at
+
+  pub over_no_body : also ≡ None → None ≡ covers (parts_in d) d
+  over_no_body none = ap (make_over (Some (term_view t.value))) (read_none also body is_body none) ∙ with_part
+
+  -- a part and a body make an over
+  pub over_some : (u : Box Term Global) → also ≡ Some u → Some (term_view (form.Over t u)) ≡ covers (parts_in d) d
+  over_some u found =
+      ap Some (term_view-Over t u) ∙ (ap (make_over (Some (term_view t.value))) (read_some also body u is_body found) ∙ with_part)
+
+pub part_lower : (d part body : Data) → Some (part, body) ≡ two_in d → depth part < depth d
+part_lower d part body at = lower d part (item body no_items) (two_found d (part, body) (sym at))
+
+pub body_lower : (d part body : Data) → Some (part, body) ≡ two_in d → depth body < depth d
+body_lower d part body at =
+    rw (two_found d (part, body) (sym at))
+    (omega (arith, le-max_right (depth part) (items_depth (item body no_items)), le-max_left (depth body) (items_depth no_items)))
+
+-- what is no object has no members
+pub no_object : (d : Data) → None ≡ as_object d → None ≡ assembles (parts_in d) d
+no_object d h = ap (option_and_then (λ ms. option_map (λ ts. named (names_of ms) (trees_of ts)) (together (parts_in d)))) h
+
+parts_under_is : (ms : Members) → parts_of (values_of ms) ≡ parts_under ms
+parts_under_is no_members = refl
+parts_under_is (member name d ms) = ap (λ os. term_in d ∷ os) (parts_under_is ms)
+
+object_at : (d : Data) (ms : Members) → Some ms ≡ as_object d
+    → option_map (λ ts. named (names_of ms) (trees_of ts)) (together (parts_of (values_of ms))) ≡ assembles (parts_in d) d
+object_at d ms h = rw (object_of d ms (sym h)) (ap (λ os. option_map (λ ts. named (names_of ms) (trees_of ts)) (together os)) (parts_under_is ms))
+
+term_view-Object : (names : Vec (List ℕ) Global) (parts : Vec Term Global) → term_view (form.Object names parts) ≡ named names.items (terms_view parts.items)
+term_view-Object names parts = search (rules, the_lemmas)
+
+module _ (d : Data) (ms : Members) (values : List (Value Global)) (at : Some ms ≡ as_object d) (are : list_data values ≡ values_of ms) where
+  -- one of the members spells no term
+  pub members_none : None ≡ together (parts_of (list_data values)) → None ≡ assembles (parts_in d) d
+  members_none none =
+      ap (option_map (λ ts. named (names_of ms) (trees_of ts))) (none ∙ ap (λ ds. together (parts_of ds)) are) ∙ object_at d ms at
+
+  -- names and parts make an object
+  pub members_some : (names : Vec (List ℕ) Global) (parts : Vec Term Global) → names.items ≡ names_of ms
+      → Some (map term_view parts.items) ≡ together (parts_of (list_data values)) → Some (term_view (form.Object names parts)) ≡ assembles (parts_in d) d
+  members_some names parts same found =
+      ap Some (term_view-Object names parts ∙ ap (λ ns. named ns (terms_view parts.items)) same)
+      ∙ (ap (option_map (λ ts. named (names_of ms) (trees_of ts))) (found ∙ ap (λ ds. together (parts_of ds)) are) ∙ object_at d ms at)
+
+values_depth : (ms : Members) → items_depth (values_of ms) ≡ members_depth ms
+values_depth no_members = refl
+values_depth (member name d ms) = ap (λ n. max (depth d) n) (values_depth ms)
+
+-- the values of an object's members nest less deep than it
+pub values_lower : (d : Data) (ms : Members) (values : List (Value Global)) → Some ms ≡ as_object d → list_data values ≡ values_of ms
+    → items_depth (list_data values) < depth d
+values_lower d ms values at are =
+    let same : items_depth (list_data values) ≡ members_depth ms = ap items_depth are ∙ values_depth ms in
+    rw (object_of d ms (sym at)) (omega arith)

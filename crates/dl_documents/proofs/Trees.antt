@@ -89,14 +89,16 @@ term_view-All : (v : Vec Term Global) → term_view (All v) ≡ all (terms_view 
 term_view-All v = search (rules, the_lemmas)
 
 -- the terms that were read of all items
-pub all_read : (d : Data) (vs : List (Value Global)) (parts : Vec Term Global) (rest : List (Value Global)) → Some (list_data vs) ≡ as_array d → length rest ≡ 0
+pub all_read : (vs : List (Value Global)) (parts : Vec Term Global) (rest : List (Value Global)) → length rest ≡ 0
     → option_map (λ ts. map term_view parts.items ++ ts) (together (parts_of (list_data rest))) ≡ together (parts_of (list_data vs))
-    → Some (term_view (All parts)) ≡ gathers (parts_in d) d
-all_read d vs parts (v ∷ rest) e none read = absurd (omega arith)
-all_read d vs parts [] e none read =
-    let found : Some (map term_view parts.items) ≡ together (parts_of (list_data vs)) =
-    ap Some (sym (append-nil (map term_view parts.items))) ∙ read in
-    rw (array_of d (list_data vs) (sym e), ← found) (ap Some (term_view-All parts))
+    → Some (map term_view parts.items) ≡ together (parts_of (list_data vs))
+all_read vs parts (v ∷ rest) none read = absurd (omega arith)
+all_read vs parts [] none read = ap Some (sym (append-nil (map term_view parts.items))) ∙ read
+
+-- parts make an all
+pub all_made : (d : Data) (vs : List (Value Global)) (parts : Vec Term Global) → Some (list_data vs) ≡ as_array d
+    → Some (map term_view parts.items) ≡ together (parts_of (list_data vs)) → Some (term_view (All parts)) ≡ gathers (parts_in d) d
+all_made d vs parts e found = rw (array_of d (list_data vs) (sym e), ← found) (ap Some (term_view-All parts))
 
 -- an item was read as no term
 pub all_unread : (d : Data) (vs : List (Value Global)) → Some (list_data vs) ≡ as_array d → None ≡ together (parts_of (list_data vs))

@@ -1,7 +1,9 @@
 -- Which trees spell which documents.
-use Rattle.std.specs.Prelude.{◌≡◌, ℕ, ℤ, pos, List, length, map, Bool, true, false, ◌||◌, codes, bytes_eq, is_some, if◌then◌else◌}
+use Rattle.std.specs.Prelude.{◌≡◌, ◌⊎◌, ℕ, ℤ, pos, List, length, map, Bool, true, false, not, ◌&&◌, ◌||◌, codes, bytes_eq, is_some, if◌then◌else◌}
 use Rattle.std.specs.Prelude.{Option, Some, None, option_and_then, IsUtf8}
 use Rattle.std.specs.List.{AllByRecursion}
+use Rattle.std.specs.Option.{option_map_or}
+use Rattle.std.specs.Ordering.{int_eq}
 use Rattle.serde_json.specs.Data.{Data, Items}
 use Rattle.serde_json.specs.Find.{get, as_array}
 use Rattle.serde_json.specs.Read.{read}
@@ -16,6 +18,8 @@ use Rattle.dl_documents.specs.Steps.{IsPlan, plan_view, plans_tree}
 use Rattle.dl_documents.specs.OwnLimits.{TableLimits, version_by, own, AreTheirLimits}
 use Rattle.dl_documents.specs.TableNumbers.{script_numbers}
 use Rattle.dl_documents.specs.Tables.{SpellsNumbers, TableCauses}
+use Rattle.dl_documents.specs.declared.forms.Forms.{Forms}
+use Rattle.dl_documents.specs.declared.forms.Forms.TheVariants.{Six, Nine}
 use Rattle.dl_documents.specs.declared.head.Version.{Version}
 use Rattle.dl_documents.specs.declared.head.Version.TheVariants.{First, Second}
 use Rattle.dl_documents.specs.declared.input.Input.{Input}
@@ -48,10 +52,18 @@ list_name d = if is_script d then codes "calls" else codes "plans"
 abbrev pub version_number : Data → Option ℤ
 version_number d = option_and_then whole (get (version_name d) d)
 
--- the document is of the version
+-- whether the version has this number
+abbrev pub has_number : ℕ → Data → Bool
+has_number n d = option_map_or (int_eq (pos n)) (version_number d) false
+
+-- the forms that a term of the document may have: all nine in a plan file of version 3
+abbrev pub forms_of : Data → Forms
+forms_of d = if not (is_script d) && has_number 3 d then Nine 0 else Six
+
+-- The document is of the version. But for the forms of terms, a plan file of version 3 is as one of version 2.
 abbrev pub IsOfVersion : Data → Version → Type 0
 IsOfVersion d First = version_number d ≡ Some (pos 1)
-IsOfVersion d Second = version_number d ≡ Some (pos 2)
+IsOfVersion d Second = (version_number d ≡ Some (pos 2)) ⊎ ((is_script d ≡ false) × (version_number d ≡ Some (pos 3)))
 
 abbrev pub IsOfNoVersion : Data → Type 0
 IsOfNoVersion d = (version : Version) → IsOfVersion d version → ⊥
@@ -130,14 +142,14 @@ pub record SpellsScript (d : Data) (s : Script) : Type 0 where
   pub limits : GivesLimits d s.limits
   pub own : GivesOwn d s.table_limits
 
--- the tree spells the plan file, which has limits of tables exactly in version 2
+-- the tree spells the plan file, which has limits of tables exactly from version 2 on
 pub record SpellsPlans (d : Data) (f : PlanFile) : Type 0 where
   pub kind : is_script d ≡ false
   pub version : IsOfVersion d (version_by f.table_limits)
   pub members : has_only_known (version_by f.table_limits) d ≡ true
   pub list : items_at (codes "plans") d ≡ Some (plans_tree (map plan_view f.plans.items))
   pub count : ArePlans (length f.plans.items)
-  pub plans : AllByRecursion IsPlan (map plan_view f.plans.items)
+  pub plans : AllByRecursion (IsPlan (forms_of d)) (map plan_view f.plans.items)
   pub tables : GivesTables d f.tables f.table_limits
   pub limits : GivesLimits d f.limits
 

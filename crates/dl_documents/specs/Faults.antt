@@ -15,13 +15,14 @@ use Rattle.dl_terms.specs.Plans.{ArePlans}
 use Rattle.dl_terms.specs.Tree.{Tree, height_of}
 use Rattle.dl_documents.specs.Script.{call_tree, IsScriptCall}
 use Rattle.dl_documents.specs.Steps.{StepTree, eval, step_tree, IsPlanStep, most_height, most_steps}
-use Rattle.dl_documents.specs.Document.{IsTextOf, IsOfVersion, IsOfNoVersion, has_only_known, is_script, items_at, list_name, number_at}
+use Rattle.dl_documents.specs.Document.{IsTextOf, IsOfVersion, IsOfNoVersion, forms_of, has_only_known, is_script, items_at, list_name, number_at}
 use Rattle.dl_documents.specs.TableNumbers.{script_numbers}
 use Rattle.dl_documents.specs.Tables.{SpellsNumbers, TableCauses}
 use Rattle.dl_documents.specs.declared.fault.PlanFault.{PlanFault}
 use Rattle.dl_documents.specs.declared.fault.PlanFault.TheVariants as fault
 use Rattle.dl_documents.specs.declared.fault.PlanFault.TheVariants.{TooLarge, NotJson, Top, BadCall}
 use Rattle.dl_documents.specs.declared.fault.PlanFault.TheVariants.{Shape, TooDeep, TooManySteps, Table, Limit, OutOfMemory}
+use Rattle.dl_documents.specs.declared.forms.Forms.{Forms}
 use Rattle.dl_documents.specs.declared.head.Version.{Version}
 use Rattle.dl_desk.specs.declared.call.DeskCall.{DeskCall}
 
@@ -78,24 +79,24 @@ pub record IsStepAt (d : Data) (n s : ℕ) (step : Data) : Type 0 where
   pub plan : IsPlanAt d n steps
   pub there : get_item s steps ≡ Some step
 
--- the tree spells no step
-abbrev pub IsNoStep : Data → Type 0
-IsNoStep d = (s : StepTree) → IsPlanStep s → d ≡ step_tree s → ⊥
+-- the tree spells no step whose term has only these forms
+abbrev pub IsNoStep : Forms → Data → Type 0
+IsNoStep forms d = (s : StepTree) → IsPlanStep forms s → d ≡ step_tree s → ⊥
 
--- the tree spells a step whose term is too high
-pub record IsTooDeep (d : Data) : Type 0 where
+-- the tree spells a step whose term has only these forms, and is too high
+pub record IsTooDeep (forms : Forms) (d : Data) : Type 0 where
   pub term : Tree
-  pub is : IsPlanStep (eval term)
+  pub is : IsPlanStep forms (eval term)
   pub spelled : d ≡ step_tree (eval term)
   pub high : most_height < height_of term
 
 -- step s of plan n is no step
 abbrev pub IsBadStep : Data → ℕ → ℕ → Type 0
-IsBadStep d n s = (step : Data) × IsStepAt d n s step × IsNoStep step
+IsBadStep d n s = (step : Data) × IsStepAt d n s step × IsNoStep (forms_of d) step
 
 -- the term of step s of plan n is too high
 abbrev pub IsDeepStep : Data → ℕ → ℕ → Type 0
-IsDeepStep d n s = (step : Data) × IsStepAt d n s step × IsTooDeep step
+IsDeepStep d n s = (step : Data) × IsStepAt d n s step × IsTooDeep (forms_of d) step
 
 -- plan n has too many steps
 abbrev pub IsLongPlan : Data → ℕ → Type 0

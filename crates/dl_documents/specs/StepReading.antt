@@ -7,8 +7,11 @@ use Rattle.dl_values.specs.declared.outcome.Outcome.{Outcome}
 use Rattle.dl_values.specs.declared.outcome.Outcome.TheVariants.{Value, KeyError}
 use Rattle.dl_source.specs.Faults.{text_bytes}
 use Rattle.dl_documents.specs.Reading.{one_in, two_in, key_in, is_true}
+use Rattle.dl_terms.specs.Tree.{Tree}
 use Rattle.dl_documents.specs.Steps.{StepTree, prime, clear, clear_all, eval}
+use Rattle.dl_documents.specs.Terms.{has_forms}
 use Rattle.dl_documents.specs.TermReading.{value_in, term_in}
+use Rattle.dl_documents.specs.declared.forms.Forms.{Forms}
 
 -- ---- outcomes
 
@@ -35,15 +38,19 @@ primed_in d = option_and_then (λ p. primed_named p.0 p.1) (one_in d)
 abbrev pub primes : Data × Data → Option StepTree
 primes p = option_map (λ q. prime q.0 q.1) (option_zip (key_in p.0) (primed_in p.1))
 
--- the step of a name and an argument
-abbrev pub step_named : List ℕ → Data → Option StepTree
-step_named name d =
+-- a term, if it has only these forms
+abbrev pub of_forms : Forms → Tree → Option Tree
+of_forms forms t = if has_forms forms t then Some t else None
+
+-- the step of a name and an argument, whose term may have these forms
+abbrev pub step_named : Forms → List ℕ → Data → Option StepTree
+step_named forms name d =
     if bytes_eq name (codes "prime") then option_and_then primes (two_in d)
     else if bytes_eq name (codes "clear") then option_map clear (key_in d)
     else if bytes_eq name (codes "clearAll") && is_true d then Some clear_all
-    else if bytes_eq name (codes "eval") then option_map eval (term_in d)
+    else if bytes_eq name (codes "eval") then option_map eval (option_and_then (of_forms forms) (term_in d))
     else None
 
 -- the step that a tree spells
-abbrev pub step_in : Data → Option StepTree
-step_in d = option_and_then (λ p. step_named p.0 p.1) (one_in d)
+abbrev pub step_in : Forms → Data → Option StepTree
+step_in forms d = option_and_then (λ p. step_named forms p.0 p.1) (one_in d)

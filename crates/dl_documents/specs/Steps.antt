@@ -1,5 +1,5 @@
 -- How steps and plans are spelled in JSON: each has one tree.
-use Rattle.std.specs.Prelude.{ℕ, ◌≤◌, List, length, map, true, codes}
+use Rattle.std.specs.Prelude.{◌≡◌, ℕ, ◌≤◌, List, length, map, true, codes}
 use Rattle.std.specs.List.{AllByRecursion}
 use Rattle.serde_json.specs.Data.{Data, null, boolean, string, array, Items}
 use Rattle.serde_json.specs.View.{items_of}
@@ -13,7 +13,8 @@ use Rattle.dl_terms.specs.declared.plan.Plan.{Plan}
 use Rattle.dl_terms.specs.declared.plan.Step.{Step}
 use Rattle.dl_terms.specs.declared.plan.Step.TheVariants as step
 use Rattle.dl_documents.specs.Script.{key_tree, one}
-use Rattle.dl_documents.specs.Terms.{two, term_tree, IsTerm, IsWhole}
+use Rattle.dl_documents.specs.Terms.{two, term_tree, IsTerm, IsWhole, has_forms}
+use Rattle.dl_documents.specs.declared.forms.Forms.{Forms}
 
 -- ---- what steps say
 
@@ -69,12 +70,12 @@ IsPrimed (Value d) = IsWhole d
 IsPrimed (KeyError text) = length text ≤ text_bytes
 IsPrimed (BatchFailed fault) = ⊥
 
--- a step's key is a key, its outcome is one to prime, and its term is a term
-abbrev pub IsPlanStep : StepTree → Type 0
-IsPlanStep (prime k o) = IsKey k × IsPrimed o
-IsPlanStep (clear k) = IsKey k
-IsPlanStep clear_all = Unit {0}
-IsPlanStep (eval t) = IsTerm t
+-- a step's key is a key, its outcome is one to prime, and its term is a term of these forms
+abbrev pub IsPlanStep : Forms → StepTree → Type 0
+IsPlanStep forms (prime k o) = IsKey k × IsPrimed o
+IsPlanStep forms (clear k) = IsKey k
+IsPlanStep forms clear_all = Unit {0}
+IsPlanStep forms (eval t) = IsTerm t × (has_forms forms t ≡ true)
 
 -- ---- plans
 
@@ -92,7 +93,7 @@ IsLow (eval t) = height_of t ≤ most_height
 IsLow step = Unit {0}
 
 -- the steps of a plan are steps, their terms aren't too high, and there aren't too many
-pub record IsPlan (plan : List StepTree) : Type 0 where
-  pub steps : AllByRecursion IsPlanStep plan
+pub record IsPlan (forms : Forms) (plan : List StepTree) : Type 0 where
+  pub steps : AllByRecursion (IsPlanStep forms) plan
   pub low : AllByRecursion IsLow plan
   pub few : length plan ≤ most_steps

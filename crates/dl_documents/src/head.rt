@@ -2,13 +2,14 @@
 
 ghost use Rattle.std.specs.Prelude.{◌≡◌, MatchOption, IfOk, IfErr, IsTrue, ◌↔◌, Some, pos};
 ghost use Rattle.std.specs.List.{list_all};
-ghost use Rattle.dl_documents.specs.Document.{IsOfVersion, IsOfNoVersion, version_number, has_only_known, is_known, is_script_member, is_script};
+ghost use Rattle.dl_documents.specs.Document.{IsOfVersion, IsOfNoVersion, forms_of, version_number, has_only_known, is_known, is_script_member, is_script};
 ghost use Rattle.dl_documents.specs.Faults.{Causes, IsLeast};
 ghost use Rattle.dl_documents.specs.Inside.Results.{HasHead};
-ghost use Rattle.dl_documents.specs.OverDatabase.{lacks_tables};
+ghost use Rattle.dl_documents.specs.OverDatabase.{is_later, lacks_tables};
 ghost use Rattle.dl_documents.specs.Inside.Top.{top_data, IsApart};
 
 use crate::fault::PlanFault;
+use crate::forms::Forms;
 use crate::limits::{self, Numbers};
 use crate::member::member;
 use crate::top::Top;
@@ -16,17 +17,18 @@ use crate::tree::whole;
 use json::Value;
 
 /// The version of a document. In the first, a batch may mix tables. In the second, each batch has keys of one table,
-/// and a table may have a limit of its own.
+/// and a table may have a limit of its own. Version 3 of plan files is the second with more forms of terms.
 #[derive(Clone, Copy)]
 pub(crate) enum Version {
     First,
     Second,
 }
 
-/// The version of a document, and the numbers of its limits.
+/// The version of a document, the forms of its terms, and the numbers of its limits.
 #[derive(Clone, Copy)]
 pub(crate) struct Head {
     pub(crate) version: Version,
+    pub(crate) forms: Forms,
     pub(crate) numbers: Numbers,
 }
 
@@ -46,7 +48,14 @@ pub(crate) fn read_head(top: &Top<'_>) -> Result<Head, PlanFault>
         return Err(PlanFault::Top);
     }
     match limits::given(top) {
-        Some(numbers) => Ok(Head { version, numbers }),
+        Some(numbers) => {
+            let forms = forms_of(top);
+            Ok(Head {
+                version,
+                forms,
+                numbers,
+            })
+        }
         None => Err(PlanFault::Top),
     }
 }
@@ -58,12 +67,12 @@ pub(crate) fn is_script(top: &Top<'_>) -> bool
     member(top, "script").is_some()
 }
 
-/// Whether the document is a plan file of version 2 without the member `tables`.
+/// Whether the document is a plan file of version 2 or 3 without the member `tables`.
 pub(crate) fn lacks_tables(top: &Top<'_>) -> bool
     requires { IsApart top.now }
     ensures { result ≡ lacks_tables (top_data top.now) }
 {
-    top.tables.is_none() && !is_script(top) && has_number(top, 2)
+    top.tables.is_none() && !is_script(top) && is_later(top)
 }
 
 /// The version of a document, if it has one.
@@ -73,10 +82,28 @@ fn version_of(top: &Top<'_>) -> Option<Version>
     if has_number(top, 1) {
         return Some(Version::First);
     }
-    if has_number(top, 2) {
+    if has_number(top, 2) || (!is_script(top) && has_number(top, 3)) {
         return Some(Version::Second);
     }
     None
+}
+
+/// The forms that a term of the document may have.
+fn forms_of(top: &Top<'_>) -> Forms
+    ensures { result ≡ forms_of (top_data top.now) }
+{
+    if !is_script(top) && has_number(top, 3) {
+        Forms::Nine { bodies: 0 }
+    } else {
+        Forms::Six
+    }
+}
+
+/// Whether the document's version has the number 2 or 3.
+fn is_later(top: &Top<'_>) -> bool
+    ensures { result ≡ is_later (top_data top.now) }
+{
+    has_number(top, 2) || has_number(top, 3)
 }
 
 /// Whether the document's version has this number.

@@ -5,6 +5,7 @@ mod argument;
 mod call;
 mod document;
 mod fault;
+mod forms;
 mod head;
 mod input;
 mod limits;

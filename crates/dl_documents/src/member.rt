@@ -1,16 +1,20 @@
 //! Members of JSON objects. If an object has a name more than once, the last counts.
 
-ghost use Rattle.std.specs.Prelude.{◌≡◌, None, false, bytes_eq, codes, option_map, option_and_then, MatchOption};
+ghost use Rattle.std.specs.Prelude.{◌≡◌, None, false, bytes_eq, codes, option_map, option_and_then, IfOk, MatchOption};
 ghost use Rattle.std.specs.List.{list_all};
 ghost use Rattle.serde_json.specs.Find.{get, get_member, as_array};
 ghost use Rattle.dl_documents.specs.Reading.{one_in};
 ghost use Rattle.dl_documents.specs.Inside.Top.{top_data};
-ghost use Rattle.dl_documents.specs.Inside.Trees.{tree_data, list_data, object_data};
+ghost use Rattle.dl_documents.specs.Inside.Trees.{tree_data, list_data, object_data, entries_data};
+ghost use Rattle.dl_documents.specs.TermReading.{names_of, values_of};
 ghost use Rattle.dl_documents.specs.Inside.Members.{IsPlaceOf};
 
 use crate::top::Top;
 use crate::tree::{into_items, into_members};
+use dl_values::Text;
 use json::Value;
+use std::alloc::{AllocError, Global};
+use std::collections::BTreeMap;
 
 /// The value of a member other than `tables`.
 pub(crate) fn member<'v, 'a>(top: &'v Top<'a>, name: &str) -> Option<&'v Value<'a>>
@@ -66,4 +70,40 @@ fn last_place(members: &[(&str, Value<'_>)], name: &str) -> Option<usize>
         }
     }
     None
+}
+
+/// The names and the values of an object's members, moved out of it, in the order of the names. Fails if memory runs
+/// out.
+pub(crate) fn in_order<'a>(
+    alloc: Global,
+    members: Vec<(&'a str, Value<'a>)>,
+) -> Result<(Vec<Text>, Vec<Value<'a>>), AllocError>
+    ensures names { IfOk result (λ p. p.0.items ≡ names_of (object_data members.entry.items)) }
+    ensures values { IfOk result (λ p. list_data p.1.items ≡ values_of (object_data members.entry.items)) }
+{
+    let members = sorted(alloc, members)?;
+    let mut names = Vec::with_capacity(alloc, members.len())?;
+    let mut values = Vec::with_capacity(alloc, members.len())?;
+    for member in members {
+        let (name, value) = member;
+        names.push(name)?;
+        values.push(value)?;
+    }
+    Ok((names, values))
+}
+
+/// The members of an object, by their names. Fails if memory runs out.
+fn sorted<'a>(
+    alloc: Global,
+    members: Vec<(&'a str, Value<'a>)>,
+) -> Result<BTreeMap<Text, Value<'a>>, AllocError>
+    ensures { IfOk result (λ m. entries_data m.entries ≡ object_data members.entry.items) }
+{
+    let mut map = BTreeMap::new(alloc);
+    for member in members {
+        let (name, value) = member;
+        let name = Text::new(alloc, name)?;
+        drop(map.insert(name, value)?);
+    }
+    Ok(map)
 }

@@ -14,6 +14,7 @@ ghost use Rattle.dl_documents.specs.Inside.Trees.{tree_data, list_data};
 ghost use Rattle.dl_documents.specs.Tables.{IsTableFault};
 
 use crate::fault::PlanFault;
+use crate::forms::Forms;
 use crate::head::{Head, Version};
 use crate::input::PlanFile;
 use crate::member::into_list;
@@ -51,7 +52,7 @@ pub(crate) fn plan_file(
     ensures err { IfErr result (RefusedFor (top_data top.entry)) }
 {
     let (lists, tables) = lists_and_tables(alloc, top)?;
-    let plans = plans(alloc, lists)?;
+    let plans = plans(alloc, head.forms, lists)?;
     let (tables, limits, table_limits) = rest(alloc, hashing, plans.as_slice(), tables, head)?;
     Ok(PlanFile {
         limits,
@@ -113,30 +114,35 @@ fn lists(alloc: Global, items: Vec<Value<'_>>) -> Result<Vec<Vec<Value<'_>>>, Pl
 
 // ---- steps
 
-/// The plans of these lists of steps.
+/// The plans of these lists of steps, whose terms may have these forms.
 ///
 /// # Errors
 /// `Shape` at the first item that isn't a step, and `OutOfMemory`.
-fn plans(alloc: Global, lists: Vec<Vec<Value<'_>>>) -> Result<Vec<Plan>, PlanFault>
-    ensures ok { IfOk result (λ ps. AreRead (rows_view lists.entry.items) (map plan_view ps.items)) }
-    ensures err { IfErr result (λ f. (f ≡ PlanFault.OutOfMemory) ⊎ IsFirstBadStep (rows_view lists.entry.items) f) }
+fn plans(alloc: Global, forms: Forms, lists: Vec<Vec<Value<'_>>>) -> Result<Vec<Plan>, PlanFault>
+    ensures ok { IfOk result (λ ps. AreRead forms (rows_view lists.entry.items) (map plan_view ps.items)) }
+    ensures err { IfErr result (λ f. (f ≡ PlanFault.OutOfMemory) ⊎ IsFirstBadStep forms (rows_view lists.entry.items) f) }
 {
     let mut plans = Vec::new(alloc);
     for list in lists {
-        let plan = plan(alloc, plans.len(), list)?;
+        let plan = plan(alloc, forms, plans.len(), list)?;
         plans.push(plan)?;
     }
     Ok(plans)
 }
 
-/// The plan with this number and these steps.
-fn plan(alloc: Global, number: usize, items: Vec<Value<'_>>) -> Result<Plan, PlanFault>
-    ensures ok { IfOk result (λ p. IsPlanOf (map tree_data items.entry.items) (plan_view p)) }
-    ensures err { IfErr result (λ f. (f ≡ PlanFault.OutOfMemory) ⊎ IsFirstBadIn number (map tree_data items.entry.items) f) }
+/// The plan with this number and these steps, whose terms may have these forms.
+fn plan(
+    alloc: Global,
+    forms: Forms,
+    number: usize,
+    items: Vec<Value<'_>>,
+) -> Result<Plan, PlanFault>
+    ensures ok { IfOk result (λ p. IsPlanOf forms (map tree_data items.entry.items) (plan_view p)) }
+    ensures err { IfErr result (λ f. (f ≡ PlanFault.OutOfMemory) ⊎ IsFirstBadIn forms number (map tree_data items.entry.items) f) }
 {
     let mut steps = Vec::with_capacity(alloc, items.len())?;
     for item in items {
-        let step = read_step(alloc, item)?;
+        let step = read_step(alloc, forms, item)?;
         let step = step.ok_or(PlanFault::Shape {
             plan: number,
             step: steps.len(),

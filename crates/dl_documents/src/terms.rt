@@ -1,14 +1,14 @@
 //! Reads terms.
 
-ghost use Rattle.std.specs.Prelude.{◌≡◌, IfOk, option_map};
+ghost use Rattle.std.specs.Prelude.{◌≡◌, IfOk, map, option_map};
 ghost use Rattle.dl_terms.specs.Tree.{follow, each};
 ghost use Rattle.dl_terms.specs.View.{term_view};
-ghost use Rattle.dl_documents.specs.TermReading.{field_in, link_in, picks, links, gathers, term_named, term_in, parts_in};
-ghost use Rattle.dl_documents.specs.Inside.Trees.{tree_data};
+ghost use Rattle.dl_documents.specs.TermReading.{field_in, link_in, picks, links, gathers, covers, item_in, assembles, together, term_named, term_in, parts_in, parts_of};
+ghost use Rattle.dl_documents.specs.Inside.Trees.{tree_data, list_data};
 
-use crate::argument::{into_pair, into_triple, json, key};
-use crate::member;
-use crate::tree::{into_items, text};
+use crate::argument::{into_pair, into_triple, is_true, json, key};
+use crate::member::{self, in_order};
+use crate::tree::{into_items, into_members, text};
 use dl_terms::Term;
 use dl_values::{TABLE_BYTES, Text};
 use json::Value;
@@ -37,6 +37,9 @@ fn named(alloc: Global, name: &str, argument: Value<'_>) -> Result<Option<Term>,
         "follow" => follow(alloc, argument),
         "each" => each(alloc, argument),
         "all" => all(alloc, argument),
+        "over" => over(alloc, argument),
+        "item" => Ok(item(&argument)),
+        "object" => object(alloc, argument),
         _ => Ok(None),
     }
 }
@@ -92,14 +95,66 @@ fn all(alloc: Global, argument: Value<'_>) -> Result<Option<Term>, AllocError>
     let Some(items) = into_items(argument) else {
         return Ok(None);
     };
-    let mut parts = Vec::with_capacity(alloc, items.len())?;
-    for item in items {
-        let Some(part) = read_term(alloc, item)? else {
+    match read_parts(alloc, items)? {
+        Some(parts) => Ok(Some(Term::All(parts))),
+        None => Ok(None),
+    }
+}
+
+#[cycle(reading)]
+fn over(alloc: Global, argument: Value<'_>) -> Result<Option<Term>, AllocError>
+    ensures { IfOk result (λ t. option_map term_view t ≡ covers (parts_in (tree_data argument.entry)) (tree_data argument.entry)) }
+{
+    let Some((part, body)) = into_pair(argument) else {
+        return Ok(None);
+    };
+    let Some(part) = read_part(alloc, part)? else {
+        return Ok(None);
+    };
+    let Some(body) = read_part(alloc, body)? else {
+        return Ok(None);
+    };
+    Ok(Some(Term::Over { part, body }))
+}
+
+/// The item, if the argument is `true`.
+fn item(argument: &Value<'_>) -> Option<Term>
+    ensures { option_map term_view result ≡ item_in (tree_data argument.now) }
+{
+    if is_true(argument) {
+        Some(Term::Item)
+    } else {
+        None
+    }
+}
+
+#[cycle(reading)]
+fn object(alloc: Global, argument: Value<'_>) -> Result<Option<Term>, AllocError>
+    ensures { IfOk result (λ t. option_map term_view t ≡ assembles (parts_in (tree_data argument.entry)) (tree_data argument.entry)) }
+{
+    let Some(members) = into_members(argument) else {
+        return Ok(None);
+    };
+    let (names, values) = in_order(alloc, members)?;
+    match read_parts(alloc, values)? {
+        Some(parts) => Ok(Some(Term::Object { names, parts })),
+        None => Ok(None),
+    }
+}
+
+/// The terms that the trees spell, if each spells one.
+#[cycle(reading)]
+fn read_parts(alloc: Global, trees: Vec<Value<'_>>) -> Result<Option<Vec<Term>>, AllocError>
+    ensures { IfOk result (λ o. option_map (λ ts. map term_view ts.items) o ≡ together (parts_of (list_data trees.entry.items))) }
+{
+    let mut parts = Vec::with_capacity(alloc, trees.len())?;
+    for tree in trees {
+        let Some(part) = read_term(alloc, tree)? else {
             return Ok(None);
         };
         parts.push(part)?;
     }
-    Ok(Some(Term::All(parts)))
+    Ok(Some(parts))
 }
 
 #[cycle(reading)]

@@ -14,7 +14,7 @@ use Rattle.dl_history.specs.Entries.{Entry}
 use Rattle.dl_desk.specs.declared.event.Ending.{Ending}
 use Rattle.dl_loader.specs.Pass.{Trace, Ticket}
 use Rattle.dl_terms.specs.declared.answer.Answer.{Answer}
-use Rattle.dl_terms.specs.Tree.{Tree, ended, load, pick, follow, each, all, depth_of}
+use Rattle.dl_terms.specs.Tree.{Tree, ended, load, pick, follow, each, all, over, the_item, named, depth_of}
 use Rattle.dl_terms.specs.TermAnswers.{Pairs, outcome_in, frontier, gives}
 use Rattle.dl_terms.specs.Laws.{GivesByDepth}
 use Rattle.dl_terms.specs.Rounds.{Gains, Covers, GainsFrontier, PartOf}
@@ -111,6 +111,9 @@ module _ (JobsEnd : List Job → List Job → List Entry → Type 0) (caller : �
   whole (follow u field table) = inl refl
   whole (each u field table) = inl refl
   whole (all us) = inl refl
+  whole (over u body) = inl refl
+  whole the_item = refl
+  whole (named names us) = inl refl
 
   below_depth : GivesByDepth → (n : ℕ) (before : List Entry) (past : Pairs) (earlier : List Job) → Rounds JobsEnd caller t n before past earlier
       → frontier t past ≢ [] → depth_of t ≤ n → ⊥

@@ -1,6 +1,6 @@
 pub mod Puts
 pub mod MigratedLemmas
-pub mod SecondVersion
+pub mod LaterVersion
 pub mod UnnumberedTables
 pub mod SortedTrees
 pub mod WholeMembers

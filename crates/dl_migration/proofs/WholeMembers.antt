@@ -56,6 +56,11 @@ of_four false true c d is first second third fourth = second refl
 of_four false false true d is first second third fourth = third refl
 of_four false false false d is first second third fourth = fourth is
 
+-- one of two
+pub of_two : {P : Type 0} (a b : Bool) → (a || b) ≡ true → (a ≡ true → P) → (b ≡ true → P) → P
+of_two true b is first second = first refl
+of_two false b is first second = second is
+
 -- one of three
 pub of_three : {P : Type 0} (a b c : Bool) → (a || (b || c)) ≡ true → (a ≡ true → P) → (b ≡ true → P) → (c ≡ true → P) → P
 of_three true b c is first second third = first refl

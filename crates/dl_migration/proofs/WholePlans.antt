@@ -4,11 +4,12 @@ use Rattle.std.proofs.lemmas.Bool.{or_from}
 use Rattle.std.specs.List.{AllByRecursion}
 use Rattle.serde_json.specs.Data.{Data}
 use Rattle.serde_json.specs.View.{items_of}
-use Rattle.serde_json.specs.Written.{has_float, items_have_float}
+use Rattle.serde_json.specs.Written.{has_float, items_have_float, members_have_float}
 use Rattle.dl_values.specs.declared.outcome.Outcome.TheVariants as outcome
-use Rattle.dl_terms.specs.Tree.{Tree, ended, load, pick, follow, each, all, Trees, no_trees, tree}
+use Rattle.dl_terms.specs.Tree.{Name, Tree, ended, load, pick, follow, each, all, over, the_item, named, Trees, no_trees, tree}
 use Rattle.dl_terms.specs.declared.answer.Answer.TheVariants as answer
-use Rattle.dl_documents.specs.Terms.{term_tree, terms_tree, IsTerm, AreTerms}
+use Rattle.dl_documents.specs.Terms.{term_tree, terms_tree, members_tree, HasNames, IsTerm, AreTerms}
+use Rattle.dl_documents.specs.declared.forms.Forms.{Forms}
 use Rattle.dl_documents.specs.Steps.{StepTree, prime, clear, clear_all, eval, step_tree, plan_tree, plans_tree, IsPlanStep, IsPlan}
 
 -- what stands alone in an object, and with texts in a list that does
@@ -17,6 +18,10 @@ alone b none = or_from b false none refl
 
 with_texts : (b : Bool) → b ≡ false → ((b || false) || false) ≡ false
 with_texts b none = alone (b || false) (alone b none)
+
+-- the same of a list of two
+both_whole : (a b : Bool) → a ≡ false → b ≡ false → ((a || (b || false)) || false) ≡ false
+both_whole a b first second = alone (a || (b || false)) (or_from a (b || false) first (alone b second))
 
 mutual
   whole_term : (t : Tree) → IsTerm t → has_float (term_tree t) ≡ false
@@ -27,23 +32,33 @@ mutual
   whole_term (follow t field table) is = with_texts (has_float (term_tree t)) (whole_term t is.0)
   whole_term (each t field table) is = with_texts (has_float (term_tree t)) (whole_term t is.0)
   whole_term (all ts) is = alone (items_have_float (terms_tree ts)) (whole_terms ts is)
+  whole_term (over t body) is = both_whole (has_float (term_tree t)) (has_float (term_tree body)) (whole_term t is.0) (whole_term body is.1)
+  whole_term the_item is = refl
+  whole_term (named names ts) is = alone (members_have_float (members_tree names ts)) (whole_members ts names is.0 is.1)
 
   whole_terms : (ts : Trees) → AreTerms ts → items_have_float (terms_tree ts) ≡ false
   whole_terms no_trees are = refl
   whole_terms (tree t ts) are = or_from (has_float (term_tree t)) (items_have_float (terms_tree ts)) (whole_term t are.0) (whole_terms ts are.1)
 
-whole_step : (s : StepTree) → IsPlanStep s → has_float (step_tree s) ≡ false
-whole_step (prime k (outcome.Value d)) is = alone ((has_float d || false) || false) (with_texts (has_float d) is.1)
-whole_step (prime k (outcome.KeyError text)) is = refl
-whole_step (prime k (outcome.BatchFailed fault)) is = absurd is.1
-whole_step (clear k) is = refl
-whole_step clear_all is = refl
-whole_step (eval t) is = alone (has_float (term_tree t)) (whole_term t is)
+  whole_members : (ts : Trees) (names : List Name) → HasNames names ts → AreTerms ts → members_have_float (members_tree names ts) ≡ false
+  whole_members no_trees names named are = refl
+  whole_members (tree t ts) [] named are = absurd named
+  whole_members (tree t ts) (name ∷ names) named are =
+      or_from (has_float (term_tree t)) (members_have_float (members_tree names ts)) (whole_term t are.0) (whole_members ts names named are.1)
+
+whole_step : (forms : Forms) (s : StepTree) → IsPlanStep forms s → has_float (step_tree s) ≡ false
+whole_step forms (prime k (outcome.Value d)) is = alone ((has_float d || false) || false) (with_texts (has_float d) is.1)
+whole_step forms (prime k (outcome.KeyError text)) is = refl
+whole_step forms (prime k (outcome.BatchFailed fault)) is = absurd is.1
+whole_step forms (clear k) is = refl
+whole_step forms clear_all is = refl
+whole_step forms (eval t) is = alone (has_float (term_tree t)) (whole_term t is.0)
 
 module _ {A : Type 0} (spell : A → Data) (Is : A → Type 0) (one_whole : (a : A) → Is a → has_float (spell a) ≡ false) where
   whole_items : (xs : List A) → AllByRecursion Is xs → items_have_float (items_of (map spell xs)) ≡ false
   whole_items [] are = refl
   whole_items (x ∷ xs) are = or_from (has_float (spell x)) (items_have_float (items_of (map spell xs))) (one_whole x are.0) (whole_items xs are.1)
 
-pub whole_plans : (plans : List (List StepTree)) → AllByRecursion IsPlan plans → items_have_float (plans_tree plans) ≡ false
-whole_plans plans are = whole_items plan_tree IsPlan (λ plan is. whole_items step_tree IsPlanStep whole_step plan is.steps) plans are
+pub whole_plans : (forms : Forms) (plans : List (List StepTree)) → AllByRecursion (IsPlan forms) plans → items_have_float (plans_tree plans) ≡ false
+whole_plans forms plans are =
+    whole_items plan_tree (IsPlan forms) (λ plan is. whole_items step_tree (IsPlanStep forms) (whole_step forms) plan is.steps) plans are

@@ -1,3 +1,3 @@
 pub mod Migrated
 pub mod Migration
-pub mod SecondVersion
+pub mod LaterVersion

@@ -1,8 +1,10 @@
-//! Writes plan files of version 1 as those of version 2.
+//! Writes plan files in a later version.
 #![tactic(auto)]
 
 mod fault;
 mod migration;
+mod target;
 
 pub use fault::MigrateFault;
 pub use migration::migrate;
+pub use target::Target;

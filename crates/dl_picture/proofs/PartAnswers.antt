@@ -1,124 +1,77 @@
 -- What parts of terms ask for and answer.
-use Rattle.std.proofs.Common.{◌≡◌, ◌∙◌, ap, sym, subst, refl, ℕ, zero, ◌+◌, ◌<◌, ◌≤◌, Bool, true, false, not, ◌&&◌, ◌||◌, nat_lt, List, [], ◌∷◌, length, drop}
+use Rattle.std.proofs.Common.{◌≡◌, ◌∙◌, ap, sym, subst, refl, ℕ, zero, ◌+◌, ◌<◌, ◌≤◌, Bool, true, false, List, [], ◌∷◌, ◌++◌, length, drop}
 use Rattle.std.proofs.Common.{get_or, Option, Some, None, arith, rules}
-use Rattle.std.specs.Prelude.{is_some, option_map, option_and_then, if◌then◌else◌, Result, Ok, Err, IfOk, Vec, Box}
-use Rattle.std.specs.declared.alloc.Global.{Global}
+use Rattle.std.specs.Prelude.{option_map, option_and_then, Result, Ok, Err, IfOk}
 use Rattle.std.proofs.lemmas.List.{drop_all, drop_more}
-use Rattle.serde_json.specs.Data.{Data, array}
-use Rattle.serde_json.specs.Find.{get}
-use Rattle.dl_terms.specs.Tree.{Name, Tree, ended, load, pick, follow, each, all}
-use Rattle.dl_terms.specs.View.{term_view, terms_view}
-use Rattle.dl_terms.specs.declared.term.Term.{Term, the_lemmas}
+use Rattle.serde_json.specs.Data.{Data, Items, no_items}
+use Rattle.serde_json.specs.View.{items_of}
+use Rattle.dl_terms.specs.TermAnswers.{both, gather, Gathered, Joint, joined, joined_as, joined_data, with_first}
+use Rattle.dl_terms.specs.Tree.{Tree, ended, load}
+use Rattle.dl_terms.specs.View.{term_view}
+use Rattle.dl_terms.specs.declared.term.Term.{the_lemmas}
 use Rattle.dl_terms.specs.declared.term.Term.TheVariants as form
 use Rattle.dl_values.specs.Key.{Key}
-use Rattle.dl_values.specs.declared.outcome.BatchFault.{BatchFault}
 use Rattle.dl_values.specs.declared.outcome.Outcome.{Outcome}
-use Rattle.dl_values.specs.declared.outcome.Outcome.TheVariants as outcome
-use Rattle.dl_terms.specs.TermAnswers.{both, field_or, gather, gathered, ended_as, Gathered, loaded, picked, Target, Targets, targets_answer}
 use Rattle.dl_terms.specs.declared.answer.Answer.{Answer}
 use Rattle.dl_terms.specs.declared.answer.Answer.TheVariants.{Value, Fault}
 use Rattle.dl_terms.specs.declared.answer.EvalFault.{EvalFault}
-use Rattle.dl_terms.specs.declared.answer.EvalFault.TheVariants as why
-use Rattle.dl_picture.specs.Asking.{Asks, AsksAfter, AsksTarget, AsksTerm, HasNoField, IsNoValue, IsPart}
-use Rattle.dl_picture.specs.TermLoads.{loads_after, targets_loads}
+use Rattle.dl_picture.specs.Asking.{Asks, AsksAfter, AsksTerm, IsNoValue}
+use Rattle.dl_picture.specs.TermLoads.{loads_after}
+use Rattle.dl_picture.specs.Together.{given, so_far, with_values}
 use Rattle.dl_picture.specs.declared.asking.Asking.{Asking}
-use Rattle.dl_picture.specs.declared.asking.Part.{Part}
-use Rattle.dl_picture.specs.declared.asking.Part.TheVariants as part
+use Rattle.dl_picture.specs.declared.asking.Together.{Together}
 
--- ---- options
+pub if_ok : {X E : Type 0} (r : Result X E) (P Q : X → Type 0) → ((x : X) → P x → Q x) → IfOk r P → IfOk r Q
+if_ok (Ok x) P Q f h = f x h
+if_ok (Err e) P Q f h = h
 
-pub none_of : {X : Type 0} (a : Option X) → is_some a ≡ false → a ≡ None
-none_of None e = refl
-none_of (Some x) e = absurd (let bad : ◌≡◌ {A = Bool} true false = e in cc)
+-- ---- values in front of what the rest gives
 
-pub some_of : {X : Type 0} (a : Option X) → is_some a ≡ true → (x : X) × (a ≡ Some x)
-some_of None e = absurd (let bad : ◌≡◌ {A = Bool} false true = e in cc)
-some_of (Some x) e = (x, refl)
+with_one : (vs : List Data) (d : Data) (g : Gathered) → with_values (vs ++ d ∷ []) g ≡ with_values vs (with_first d g)
+with_one [] d g = refl
+with_one (v ∷ vs) d g = ap (with_first v) (with_one vs d g)
 
--- ---- parts
+with_fault : (vs : List Data) (f : EvalFault) → with_values vs (Gathered.fault f) ≡ Gathered.fault f
+with_fault [] f = refl
+with_fault (v ∷ vs) f = ap (with_first v) (with_fault vs f)
 
-pub several_wait : (a : Option Answer) → is_some a ≡ false → IsPart a part.Waits
-several_wait a e = none_of a e
+with_none : (vs : List Data) → with_values vs (Gathered.values no_items) ≡ Gathered.values (items_of vs)
+with_none [] = refl
+with_none (v ∷ vs) = ap (with_first v) (with_none vs)
 
-pub several_are_bare : (a : Option Answer) → is_some a ≡ true → ((b : Answer) → a ≡ Some b → HasNoField b) → IsPart a part.Bare
-several_are_bare a e bare = let f = some_of a e in (f.0, f.1, bare f.0 f.1)
+-- ---- one part more
 
-pub waits_for : (a : Option Answer) → IsPart a part.Waits → is_some a ≡ false
-waits_for a is = ap is_some is
+pub value_given : (w : Bool) (e : Option EvalFault) (vs : List Data) (d : Data) (rest : Option (List Answer))
+    → given w e (vs ++ d ∷ []) rest ≡ given w e vs (both (Some (Value d)) rest)
+value_given true e vs d rest = refl
+value_given false None vs d None = refl
+value_given false None vs d (Some xs) = ap (λ (g : Gathered). Some g) (with_one vs d (gather xs))
+value_given false (Some f) vs d None = refl
+value_given false (Some f) vs d (Some xs) = refl
 
-pub row_ends : (a : Option Answer) (b : Answer) → a ≡ Some b → is_some a ≡ true
-row_ends a b is = ap is_some is
+pub fault_given : (w : Bool) (vs : List Data) (f : EvalFault) (rest : Option (List Answer))
+    → given w (Some f) vs rest ≡ given w None vs (both (Some (Fault f)) rest)
+fault_given true vs f rest = refl
+fault_given false vs f None = refl
+fault_given false vs f (Some xs) = ap (λ (g : Gathered). Some g) (sym (with_fault vs f))
 
-pub bare_ends : (a : Option Answer) → IsPart a part.Bare → is_some a ≡ true
-bare_ends a is = ap is_some is.1
+pub other_given : (w : Bool) (e f : EvalFault) (vs : List Data) (rest : Option (List Answer))
+    → given w (Some e) vs rest ≡ given w (Some e) vs (both (Some (Fault f)) rest)
+other_given true e f vs rest = refl
+other_given false e f vs None = refl
+other_given false e f vs (Some xs) = refl
 
--- a fault has no field
-pub fault_bare : (f : EvalFault) → HasNoField (Fault f)
-fault_bare f field = (f, refl)
+pub none_given : (w : Bool) (e : Option EvalFault) (vs : List Data) (rest : Option (List Answer)) → None ≡ given w e vs (both None rest)
+none_given true e vs rest = refl
+none_given false e vs rest = refl
 
-pub key_error_bare : (key : Key) (o : Outcome) (text : List ℕ) → o ≡ outcome.KeyError text → IsPart (Some (loaded key o)) part.Bare
-key_error_bare key o text is = (loaded key o, refl, subst (λ x. HasNoField (loaded key x)) (sym is) (fault_bare (why.Key key text)))
+-- ---- all parts
 
-pub batch_failed_bare : (key : Key) (o : Outcome) (fault : BatchFault) → o ≡ outcome.BatchFailed fault → IsPart (Some (loaded key o)) part.Bare
-batch_failed_bare key o fault is = (loaded key o, refl, subst (λ x. HasNoField (loaded key x)) (sym is) (fault_bare (why.Batch key fault)))
+pub fault_finished : (j : Joint) (f : EvalFault) (vs : List Data) → option_map (joined_as j) (given false (Some f) vs (Some [])) ≡ Some (Fault f)
+fault_finished j f vs = refl
 
-no_value : (a : Option Answer) (f : EvalFault) → a ≡ Some (Fault f) → IsNoValue a
-no_value a f is = subst IsNoValue (sym is) tt
-
-pub pick_waits : (field : Name) (a : Option Answer) → a ≡ None → IsPart (option_map (picked field) a) part.Waits × IsNoValue (option_map (picked field) a)
-pick_waits field a is =
-    let none : option_map (picked field) a ≡ None = ap (option_map (picked field)) is in
-    (none, subst IsNoValue (sym none) tt)
-
-pick_fault : (field : Name) (a : Option Answer) (b : Answer) (f : EvalFault) → a ≡ Some b → picked field b ≡ Fault f
-    → IsPart (option_map (picked field) a) part.Bare × IsNoValue (option_map (picked field) a)
-pick_fault field a b f is faults =
-    let some : option_map (picked field) a ≡ Some (Fault f) = ap (option_map (picked field)) is ∙ ap Some faults in
-    ((Fault f, some, fault_bare f), no_value (option_map (picked field) a) f some)
-
-pub pick_bare : (field : Name) (a : Option Answer) → IsPart a part.Bare → IsPart (option_map (picked field) a) part.Bare × IsNoValue (option_map (picked field) a)
-pick_bare field a is = pick_fault field a is.0 (is.2 field).0 is.1 (is.2 field).1
-
-pub pick_missing : (field : Name) (a : Option Answer) (d : Data) → a ≡ Some (Value d) → get field d ≡ None
-    → IsPart (option_map (picked field) a) part.Bare × IsNoValue (option_map (picked field) a)
-pick_missing field a d is missing = pick_fault field a (Value d) why.NoField is (ap field_or missing)
-
-pub pick_found : (field : Name) (a : Option Answer) (d x : Data) → a ≡ Some (Value d) → get field d ≡ Some x → option_map (picked field) a ≡ Some (Value x)
-pick_found field a d x is found = ap (option_map (picked field)) is ∙ ap (λ o. Some (field_or o)) found
-
--- ---- several together
-
-ended_bare : (g : Gathered) → HasNoField (ended_as g)
-ended_bare (Gathered.values ds) field = (why.NoField, refl)
-ended_bare (Gathered.fault f) field = (f, refl)
-
-pub gathered_bare : (o : Option (List Answer)) (b : Answer) → option_map gathered o ≡ Some b → HasNoField b
-gathered_bare None b e = absurd (let bad : ◌≡◌ {A = Option Answer} None (Some b) = e in cc)
-gathered_bare (Some ls) b e =
-    let same : gathered ls ≡ b = some_same (gathered ls) b e in
-    subst HasNoField same (ended_bare (gather ls))
-  where
-    some_same : (x y : Answer) → ◌≡◌ {A = Option Answer} (Some x) (Some y) → x ≡ y
-    some_same x y is = cc
-
-pub gathered_some : (o : Option (List Answer)) → is_some (option_map gathered o) ≡ is_some o
-gathered_some None = refl
-gathered_some (Some ls) = refl
-
--- no loads, and a fault
-pub asked_none : (known : Key → Option Outcome) (x : Target) (f : EvalFault) (asking : Asking) → x ≡ Target.none f → asking.loads ≡ 0 → asking.part ≡ part.Bare
-    → AsksTarget known x asking
-asked_none known x f asking is zero_are same = subst (λ y. AsksTarget known y asking) (sym is) (record {
-  loads = zero_are;
-  part = subst (IsPart (Some (Fault f))) (sym same) (Fault f, refl, fault_bare f);
-})
-
-pub asked_no_list : (known : Key → Option Outcome) (x : Targets) (f : EvalFault) (asking : Asking) → x ≡ Targets.none f → asking.loads ≡ 0 → asking.part ≡ part.Bare
-    → Asks (targets_loads x) (targets_answer known x) asking
-asked_no_list known x f asking is zero_are same = subst (λ y. Asks (targets_loads y) (targets_answer known y) asking) (sym is) (record {
-  loads = zero_are;
-  part = subst (IsPart (Some (Fault f))) (sym same) (Fault f, refl, fault_bare f);
-})
+pub values_finished : (j : Joint) (vs : List Data) → option_map (joined_as j) (given false None vs (Some [])) ≡ Some (Value (joined_data j (items_of vs)))
+values_finished j vs = ap (λ (g : Gathered). Some (joined_as j g)) (with_none vs)
 
 -- ---- one step of a loop over parts
 
@@ -133,18 +86,14 @@ module _ {A : Type 0} (xs : List A) (i : ℕ) (x : A) (lt : i < length xs) (is :
       let step : whole (drop i xs) ≡ own + whole (drop (i + 1) xs) = ap whole front ∙ split (drop (i + 1) xs) in
       omega (arith, step, held, is_more)
 
-  -- whether all end, after it is known of x
-  pub ends_next : (whole : List A → Bool) (own : Bool) → ((rest : List A) → whole (x ∷ rest) ≡ (own && whole rest)) → (waits waited more total : Bool)
-      → (not waits && whole (drop i xs)) ≡ total → own ≡ not waited → more ≡ (waits || waited) → (not more && whole (drop (i + 1) xs)) ≡ total
-  ends_next whole own split waits waited more total held ends joined =
+  -- what the rest gives, after x has
+  pub gives_next : (whole : List A → Option (List Answer)) (own pushed : Option Answer) → ((rest : List A) → whole (x ∷ rest) ≡ both own (whole rest))
+      → (t u : Together) (total : Option Gathered) → so_far t (whole (drop i xs)) ≡ total → pushed ≡ own
+      → ((rest : Option (List Answer)) → so_far u rest ≡ so_far t (both pushed rest)) → so_far u (whole (drop (i + 1) xs)) ≡ total
+  gives_next whole own pushed split t u total held same gives =
       let rest = whole (drop (i + 1) xs) in
-      let step : whole (drop i xs) ≡ (own && rest) = ap whole front ∙ split (drop (i + 1) xs) in
-      let both_are : whole (drop i xs) ≡ (not waited && rest) = step ∙ ap (λ b. b && rest) ends in
-      ap (λ b. not b && rest) joined ∙ (regroup waits waited rest ∙ (ap (λ b. not waits && b) (sym both_are) ∙ held))
-    where
-      regroup : (w v r : Bool) → (not (w || v) && r) ≡ (not w && (not v && r))
-      regroup true v r = refl
-      regroup false v r = refl
+      let step : both own rest ≡ whole (drop i xs) = sym (ap whole front ∙ split (drop (i + 1) xs)) in
+      gives rest ∙ (ap (λ (a : Option Answer). so_far t (both a rest)) same ∙ (ap (so_far t) step ∙ held))
 
 -- all are done
 pub loads_done : {A : Type 0} (xs : List A) (i : ℕ) → length xs ≤ i → (whole : List A → ℕ) → whole [] ≡ 0 → (n total : ℕ) → n + whole (drop i xs) ≡ total → n ≡ total
@@ -152,73 +101,104 @@ loads_done xs i past whole none n total held =
     let left : whole (drop i xs) ≡ 0 = ap whole (drop_all i xs past) ∙ none in
     omega (arith, left, held)
 
-pub ends_done : {A : Type 0} (xs : List A) (i : ℕ) → length xs ≤ i → (whole : List A → Bool) → whole [] ≡ true → (waits total : Bool)
-    → (not waits && whole (drop i xs)) ≡ total → total ≡ not waits
-ends_done xs i past whole none waits total held = sym held ∙ (ap (λ b. not waits && b) (ap whole (drop_all i xs past) ∙ none) ∙ and_true waits)
-  where
-    and_true : (w : Bool) → (not w && true) ≡ not w
-    and_true true = refl
-    and_true false = refl
+gathered_twice : (j : Joint) (o : Option (List Answer)) → option_map (joined_as j) (option_map gather o) ≡ option_map (joined j) o
+gathered_twice j None = refl
+gathered_twice j (Some xs) = refl
 
-pub both_ends : {X : Type 0} (a : Option X) (rest : Option (List X)) → is_some (both a rest) ≡ (is_some a && is_some rest)
-both_ends None rest = refl
-both_ends (Some x) None = refl
-both_ends (Some x) (Some xs) = refl
+pub gives_done : {A : Type 0} (xs : List A) (i : ℕ) → length xs ≤ i → (whole : List A → Option (List Answer)) → whole [] ≡ Some [] → (j : Joint) (t : Together)
+    (total : Option (List Answer)) → so_far t (whole (drop i xs)) ≡ option_map gather total → option_map (joined_as j) (so_far t (Some [])) ≡ option_map (joined j) total
+gives_done xs i past whole none j t total held =
+    let end : Some [] ≡ whole (drop i xs) = sym (ap whole (drop_all i xs past) ∙ none) in
+    ap (option_map (joined_as j)) (ap (so_far t) end ∙ held) ∙ gathered_twice j total
+
+pub finished : (n m : ℕ) (a b : Option Answer) (asking : Asking) → Asks n a asking → n ≡ m → a ≡ b → Asks m b asking
+finished n m a b asking asks loads answer = record { loads = asks.loads ∙ loads; answer = asks.answer ∙ answer }
 
 -- ---- what goes on from a part
 
--- the loads and the answer of what goes on from a field, in the words of the part
-pub after_pick : (field : Name) (a : Option Answer) (loads : Answer → ℕ) (next : Answer → Option Answer) (asking : Asking)
-    → AsksAfter (option_map (picked field) a) loads next asking → AsksAfter a (λ b. loads (picked field b)) (λ b. next (picked field b)) asking
-after_pick field None loads next asking asks = asks
-after_pick field (Some b) loads next asking asks = asks
+-- an answer after some loads
+pub answer_after : (n : ℕ) (a : Option Answer) (one both_are : Asking) (b : Option Answer) → Asks 0 a one → Asks (n + one.loads) one.answer both_are → a ≡ b
+    → Asks n b both_are
+answer_after n a one both_are b first second same =
+    let none : one.loads ≡ 0 = first.loads in
+    let own : both_are.loads ≡ n + one.loads = second.loads in
+    record { loads = omega (arith, none, own); answer = second.answer ∙ (first.answer ∙ same) }
 
-pub after_value : (a : Option Answer) (b : Answer) (loads : Answer → ℕ) (next : Answer → Option Answer) (asking : Asking) → a ≡ Some b
-    → Asks (loads b) (next b) asking → AsksAfter a loads next asking
-after_value a b loads next asking is asks = subst (λ o. AsksAfter o loads next asking) (sym is) asks
+no_loads : (a : Option Answer) (loads : Answer → ℕ) → IsNoValue a → ((f : EvalFault) → loads (Fault f) ≡ 0) → loads_after a loads ≡ 0
+no_loads None loads none zero_are = refl
+no_loads (Some (Value d)) loads none zero_are = absurd none
+no_loads (Some (Fault f)) loads none zero_are = zero_are f
 
--- without a value nothing more is asked, and the fault stays
-pub after_none : (a : Option Answer) (loads : Answer → ℕ) (next : Answer → Option Answer) (p : Part) (asking : Asking) → IsPart a p → IsNoValue a
-    → ((f : EvalFault) → loads (Fault f) ≡ 0) → ((f : EvalFault) → next (Fault f) ≡ Some (Fault f)) → asking.loads ≡ 0 → asking.part ≡ p
-    → AsksAfter a loads next asking
-after_none None loads next p asking is none no_loads stays zero_are same = record { loads = zero_are; part = subst (IsPart None) (sym same) is }
-after_none (Some (Value d)) loads next p asking is none no_loads stays zero_are same = absurd none
-after_none (Some (Fault f)) loads next p asking is none no_loads stays zero_are same = record {
-  loads = zero_are ∙ sym (no_loads f);
-  part = subst (λ o. IsPart o asking.part) (sym (stays f)) (subst (IsPart (Some (Fault f))) (sym same) is);
+same_answer : (a : Option Answer) (next : Answer → Option Answer) → IsNoValue a → ((f : EvalFault) → next (Fault f) ≡ Some (Fault f)) → a ≡ option_and_then next a
+same_answer None next none stays = refl
+same_answer (Some (Value d)) next none stays = absurd none
+same_answer (Some (Fault f)) next none stays = sym (stays f)
+
+-- without a value nothing more is asked, and the answer stays
+pub after_none : (part asking : Asking) (loads : Answer → ℕ) (next : Answer → Option Answer) → asking ≡ part → IsNoValue part.answer
+    → ((f : EvalFault) → loads (Fault f) ≡ 0) → ((f : EvalFault) → next (Fault f) ≡ Some (Fault f)) → AsksAfter part loads next asking
+after_none part asking loads next same none zero_are stays =
+    let more : loads_after part.answer loads ≡ 0 = no_loads part.answer loads none zero_are in
+    let own : asking.loads ≡ part.loads = ap (λ (a : Asking). a.loads) same in
+    record { loads = omega (arith, more, own); answer = ap (λ (a : Asking). a.answer) same ∙ same_answer part.answer next none stays }
+
+-- the same of a pick, which asks for nothing more
+pub picked_none : (part asking : Asking) (pick : Answer → Answer) → asking ≡ part → IsNoValue part.answer → ((f : EvalFault) → pick (Fault f) ≡ Fault f)
+    → Asks part.loads (option_map pick part.answer) asking
+picked_none part asking pick same none stays = record {
+  loads = ap (λ (a : Asking). a.loads) same;
+  answer = ap (λ (a : Asking). a.answer) same ∙ stays_picked part.answer none;
+}
+  where
+    stays_picked : (a : Option Answer) → IsNoValue a → a ≡ option_map pick a
+    stays_picked None none = refl
+    stays_picked (Some (Value d)) none = absurd none
+    stays_picked (Some (Fault f)) none = ap (λ (b : Answer). Some b) (sym (stays f))
+
+-- a value, and what goes on from it
+pub after_value : (part next_is both_are : Asking) (n : ℕ) (d : Data) (loads : Answer → ℕ) (next : Answer → Option Answer) → Asks n (Some (Value d)) part
+    → Asks (loads (Value d)) (next (Value d)) next_is → Asks (n + next_is.loads) next_is.answer both_are → AsksAfter part loads next both_are
+after_value part next_is both_are n d loads next first second all = record {
+  loads = all.loads
+      ∙ (ap (λ (k : ℕ). n + k) second.loads
+      ∙ sym (ap (λ (k : ℕ). k + loads_after part.answer loads) first.loads ∙ ap (λ (a : Option Answer). n + loads_after a loads) first.answer));
+  answer = all.answer ∙ (second.answer ∙ sym (ap (option_and_then next) first.answer));
 }
 
--- a part, and what goes on from it
-pub asked_both : (n m : ℕ) (a : Option Answer) (one next both_are : Asking) → one.loads ≡ n → Asks m a next
-    → both_are.loads ≡ one.loads + next.loads → both_are.part ≡ next.part → Asks (n + m) a both_are
-asked_both n m a one next both_are first second sums same = record {
-  loads = sums ∙ (ap (λ k. k + next.loads) first ∙ ap (λ k. n + k) second.loads);
-  part = subst (IsPart a) (sym same) second.part;
+-- ---- a part in a form
+
+-- a part was asked for, and what comes of it is in the words of the part
+pub of_part : (n : ℕ) (a : Option Answer) (part asking : Asking) (loads : Answer → ℕ) (next : Answer → Option Answer) → Asks n a part
+    → AsksAfter part loads next asking → Asks (n + loads_after a loads) (option_and_then next a) asking
+of_part n a part asking loads next is asks = record {
+  loads = asks.loads
+      ∙ (ap (λ (k : ℕ). k + loads_after part.answer loads) is.loads ∙ ap (λ (b : Option Answer). n + loads_after b loads) is.answer);
+  answer = asks.answer ∙ ap (option_and_then next) is.answer;
 }
 
-pub if_ok : {X E : Type 0} (r : Result X E) (P Q : X → Type 0) → ((x : X) → P x → Q x) → IfOk r P → IfOk r Q
-if_ok (Ok x) P Q f h = f x h
-if_ok (Err e) P Q f h = h
+pub of_pick : (n : ℕ) (a : Option Answer) (part asking : Asking) (pick : Answer → Answer) → Asks n a part
+    → Asks part.loads (option_map pick part.answer) asking → Asks n (option_map pick a) asking
+of_pick n a part asking pick is asks = record { loads = asks.loads ∙ is.loads; answer = asks.answer ∙ ap (option_map pick) is.answer }
+
+-- the field of a value
+pub value_picked : (part one both_are : Asking) (n : ℕ) (d : Data) (a : Answer) (pick : Answer → Answer) → Asks n (Some (Value d)) part → Asks 0 (Some a) one
+    → Asks (n + one.loads) one.answer both_are → a ≡ pick (Value d) → Asks part.loads (option_map pick part.answer) both_are
+value_picked part one both_are n d a pick first second all same =
+    let none : one.loads ≡ 0 = second.loads in
+    let own : both_are.loads ≡ n + one.loads = all.loads in
+    let was : part.loads ≡ n = first.loads in
+    record {
+      loads = omega (arith, none, own, was);
+      answer = all.answer ∙ (second.answer ∙ (ap (λ (b : Answer). Some b) same ∙ sym (ap (option_map pick) first.answer)));
+    }
 
 -- ---- terms
 
-pub asks_as : (known : Key → Option Outcome) (u v : Tree) (asking : Asking) → u ≡ v → AsksTerm known v asking → AsksTerm known u asking
-asks_as known u v asking is asks = subst (λ t. AsksTerm known t asking) (sym is) asks
+pub asks_as : (known : Key → Option Outcome) (i : Option Data) (u v : Tree) (asking : Asking) → u ≡ v → AsksTerm known i v asking → AsksTerm known i u asking
+asks_as known i u v asking is asks = subst (λ (t : Tree). AsksTerm known i t asking) (sym is) asks
 
 pub term_view-Value : (d : Data) → term_view (form.Value d) ≡ ended (Value d)
 term_view-Value d = search (rules, the_lemmas)
 
 pub term_view-Load : (k : Key) → term_view (form.Load k) ≡ load k
 term_view-Load k = search (rules, the_lemmas)
-
-pub term_view-Pick : (part : Box Term Global) (field : Name) → term_view (form.Pick part field) ≡ pick (term_view part.value) field
-term_view-Pick part field = search (rules, the_lemmas)
-
-pub term_view-Follow : (part : Box Term Global) (field table : Name) → term_view (form.Follow part field table) ≡ follow (term_view part.value) field table
-term_view-Follow part field table = search (rules, the_lemmas)
-
-pub term_view-Each : (part : Box Term Global) (field table : Name) → term_view (form.Each part field table) ≡ each (term_view part.value) field table
-term_view-Each part field table = search (rules, the_lemmas)
-
-pub term_view-All : (v : Vec Term Global) → term_view (form.All v) ≡ all (terms_view v.items)
-term_view-All v = search (rules, the_lemmas)

@@ -8,12 +8,13 @@ use Rattle.dl_values.specs.Key.{Key}
 use Rattle.dl_values.specs.declared.outcome.Outcome.{Outcome}
 use Rattle.dl_desk.specs.declared.event.Event.{Event}
 use Rattle.dl_history.specs.Lists.{Every}
-use Rattle.dl_terms.specs.Tree.{Name, Tree, ended, load, pick, follow, each, all, Trees, no_trees, tree}
-use Rattle.dl_terms.specs.TermAnswers.{answer, picked, target_answer, Targets, targets_in, value_target}
+use Rattle.dl_terms.specs.Tree.{Name, Tree, ended, load, pick, follow, each, all, over, the_item, named, Trees, no_trees, tree, copies, with_item}
+use Rattle.dl_terms.specs.TermAnswers.{answer, Listed, listed, picked, target_answer, Targets, targets_in, value_target}
 use Rattle.dl_terms.specs.View.{term_view}
 use Rattle.dl_terms.specs.declared.answer.Answer.{Answer}
 use Rattle.dl_terms.specs.declared.answer.Answer.TheVariants.{Value, Fault}
 use Rattle.dl_terms.specs.declared.answer.EvalFault.{EvalFault}
+use Rattle.dl_terms.specs.declared.term.Term.{Term}
 use Rattle.dl_picture.specs.TermLoads.{Cells, known_by, rounds_after, with_call}
 use Rattle.dl_picture.specs.declared.origin.Met.{Met}
 use Rattle.dl_picture.specs.declared.origin.Met.TheVariants as met
@@ -26,14 +27,23 @@ abbrev pub list_of : Trees → List Tree
 list_of no_trees = []
 list_of (tree t ts) = t ∷ list_of ts
 
--- its own parts, in order
-abbrev pub parts_of : Tree → List Tree
-parts_of (ended a) = []
-parts_of (load k) = []
-parts_of (pick t field) = t ∷ []
-parts_of (follow t field table) = t ∷ []
-parts_of (each t field table) = t ∷ []
-parts_of (all ts) = list_of ts
+-- the copies of a body, one for each item of a list
+abbrev pub copies_over : Tree → Listed → Trees
+copies_over body (Listed.items ds) = copies body ds
+copies_over body (Listed.none f) = no_trees
+
+abbrev pub copies_after : Tree → Option Answer → Trees
+copies_after body None = no_trees
+copies_after body (Some a) = copies_over body (listed a)
+
+-- the tree with the item in its place, in a body
+abbrev pub at_item : Option Data → Tree → Tree
+at_item None t = t
+at_item (Some d) t = with_item d t
+
+-- the tree is that of the term, in no body or in one with some item
+abbrev pub IsOf : Tree → Term → Type 0
+IsOf t term = (i : Option Data) × (t ≡ at_item i (term_view term))
 
 -- ---- what a part may meet in a value
 
@@ -48,6 +58,18 @@ HasField field d m = (v : JsonValue) × (get field d ≡ Some (view v)) × (m �
 -- if `known` gives the outcome of each key that has one
 module _ (known : Key → Option Outcome) where
   -- ---- the path
+
+  -- its own parts, in order: of an over its part, and then the copies of its body for the items that the part gives
+  abbrev pub parts_of : Tree → List Tree
+  parts_of (ended a) = []
+  parts_of (load k) = []
+  parts_of (pick t field) = t ∷ []
+  parts_of (follow t field table) = t ∷ []
+  parts_of (each t field table) = t ∷ []
+  parts_of (all ts) = list_of ts
+  parts_of (over t body) = t ∷ list_of (copies_after body (answer known t))
+  parts_of the_item = []
+  parts_of (named names ts) = list_of ts
 
   abbrev pub HasValue : Tree → Type 0
   HasValue t = (d : Data) × (answer known t ≡ Some (Value d))
@@ -70,7 +92,7 @@ module _ (known : Key → Option Outcome) where
   abbrev pub LeadsTo : List PathStep → Tree → Tree → EvalFault → Type 0
   LeadsTo [] t p f = (t ≡ p) × HasOwnFault t f
   LeadsTo (s ∷ path) t p f =
-      (q : Tree) × (t ≡ term_view s.term.now) × (answer known t ≡ Some (Fault f)) × IsLeftmost t s.part q × LeadsTo path q p f
+      (q : Tree) × IsOf t s.term.now × (answer known t ≡ Some (Fault f)) × IsLeftmost t s.part q × LeadsTo path q p f
 
   -- ---- what the part met
 
@@ -90,8 +112,8 @@ module _ (known : Key → Option Outcome) where
       (HasField field d m × (targets_in table (picked field (Value d)) ≡ Targets.none f))
       ⊎ ((list : Data) × (get field d ≡ Some list) × HasItem table f list m)
 
-  -- a part with this fault of its own met this: a load the outcome of its key, which its fault has, and the others the
-  -- value of their part, the value of its field, or an item of that
+  -- a part with this fault of its own met this: a load the outcome of its key, which its fault has, an item nothing, and
+  -- the others the value of their part, the value of its field, or an item of that
   abbrev pub Meets : Tree → EvalFault → Met → Type 0
   Meets (ended a) f m = ⊥
   Meets (load k) f m = m ≡ met.Outcome
@@ -99,13 +121,18 @@ module _ (known : Key → Option Outcome) where
   Meets (follow t field table) f m = (d : Data) × (answer known t ≡ Some (Value d)) × (LacksField field d m ⊎ HasField field d m)
   Meets (each t field table) f m = (d : Data) × (answer known t ≡ Some (Value d)) × (LacksField field d m ⊎ HasIds field table f d m)
   Meets (all ts) f m = ⊥
+  Meets (over t body) f m = (d : Data) × (answer known t ≡ Some (Value d)) × (listed (Value d) ≡ Listed.none f) × (m ≡ met.Whole d)
+  Meets the_item f m = m ≡ met.Nothing
+  Meets (named names ts) f m = ⊥
 
   -- ---- together
 
   -- the term has the fault of this origin, by its path and from its part, which met this
   pub record ComesFrom (t : Tree) (o : Origin) : Type 0 where
-    pub path : LeadsTo (reverse o.path.items) t (term_view o.part.now) o.fault
-    pub met : Meets (term_view o.part.now) o.fault o.met
+    pub part : Tree
+    pub whose : IsOf part o.part.now
+    pub path : LeadsTo (reverse o.path.items) t part o.fault
+    pub met : Meets part o.fault o.met
 
   -- the term has this value, or the fault of this origin
   abbrev pub EndsWith : Tree → Result Data Origin → Type 0

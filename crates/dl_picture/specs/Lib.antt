@@ -5,4 +5,5 @@ pub mod Numbers
 pub mod Script
 pub mod Seeking
 pub mod TermLoads
+pub mod Together
 pub mod Xml

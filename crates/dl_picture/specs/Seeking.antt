@@ -1,18 +1,19 @@
 -- What parts of a term end with, on the way to where the term's fault comes from.
 use Rattle.std.specs.Prelude.{◌≡◌, ℕ, suc, List, [], ◌∷◌, ◌++◌, length, map, Option, Some, None, option_map, Result, Ok, Err}
-use Rattle.serde_json.specs.Data.{Data, array}
+use Rattle.serde_json.specs.Data.{Data}
 use Rattle.serde_json.specs.View.{items_of, items_view, view}
 use Rattle.serde_json.specs.declared.value.Value.{Value as JsonValue}
 use Rattle.dl_values.specs.Key.{Key}
 use Rattle.dl_values.specs.declared.outcome.Outcome.{Outcome}
 use Rattle.dl_history.specs.Lists.{Every}
 use Rattle.dl_terms.specs.Tree.{Name, Tree}
-use Rattle.dl_terms.specs.TermAnswers.{answer, gathered, item_targets, target_answer, target_answers, value_target}
+use Rattle.dl_terms.specs.TermAnswers.{answer, answers, gathered, item_targets, Joint, joined, joined_data, target_answer, target_answers, value_target}
+use Rattle.dl_terms.specs.View.{trees_of}
 use Rattle.dl_terms.specs.declared.answer.Answer.{Answer}
 use Rattle.dl_terms.specs.declared.answer.Answer.TheVariants.{Value, Fault}
 use Rattle.dl_terms.specs.declared.answer.EvalFault.{EvalFault}
 use Rattle.dl_terms.specs.declared.term.Term.{Term}
-use Rattle.dl_picture.specs.FaultPath.{MayEndWith, parts_of}
+use Rattle.dl_picture.specs.FaultPath.{HasValue, MayEndWith, parts_of}
 use Rattle.dl_picture.specs.declared.origin.Met.TheVariants as met
 use Rattle.dl_picture.specs.declared.origin.Origin.{Origin}
 
@@ -20,10 +21,11 @@ use Rattle.dl_picture.specs.declared.origin.Origin.{Origin}
 abbrev pub value_ending : Data → Result Data Origin
 value_ending d = Ok d
 
--- the endings are values, and together they are this list; or the first n of them are values, and the next is this fault
-abbrev pub Gathers : List (Result Data Origin) → Result Data (ℕ × Origin) → Type 0
-Gathers endings (Ok d) = (vs : List Data) × (endings ≡ map value_ending vs) × (d ≡ array (items_of vs))
-Gathers endings (Err e) = (vs : List Data) × (rest : List (Result Data Origin)) × (endings ≡ map value_ending vs ++ Err e.1 ∷ rest) × (length vs ≡ e.0)
+-- the endings are values, and this is what they are together; or the first n of them are values, and the next is this
+-- fault
+abbrev pub Gathers : Joint → List (Result Data Origin) → Result Data (ℕ × Origin) → Type 0
+Gathers j endings (Ok d) = (vs : List Data) × (endings ≡ map value_ending vs) × (d ≡ joined_data j (items_of vs))
+Gathers j endings (Err e) = (vs : List Data) × (rest : List (Result Data Origin)) × (endings ≡ map value_ending vs ++ Err e.1 ∷ rest) × (length vs ≡ e.0)
 
 -- the origin of the fault with which a term ends, if it does
 abbrev pub origin_of : Option (Result Data Origin) → Option Origin
@@ -32,11 +34,12 @@ origin_of (Some (Ok d)) = None
 origin_of (Some (Err o)) = Some o
 
 module _ (known : Key → Option Outcome) where
-  -- ---- a term over its only part
+  -- ---- a term that goes on from a part
 
-  -- q is the only part of the term t, which waits if q does, and has the fault of q
+  -- q is the first part of the term t, which waits if q does, and has the fault of q
   pub record IsOver (t q : Tree) : Type 0 where
-    pub only : parts_of t ≡ q ∷ []
+    pub rest : List Tree
+    pub parts : parts_of known t ≡ q ∷ rest
     pub waits : answer known q ≡ None → answer known t ≡ None
     pub fails : (f : EvalFault) → answer known q ≡ Some (Fault f) → answer known t ≡ Some (Fault f)
 
@@ -44,6 +47,16 @@ module _ (known : Key → Option Outcome) where
   abbrev pub EndsInside : Tree → Tree → Result Data (Option (Result Data Origin)) → Type 0
   EndsInside t q (Ok d) = answer known q ≡ Some (Value d)
   EndsInside t q (Err ending) = MayEndWith known t ending
+
+  -- ---- parts that answer together
+
+  -- the term t answers what the trees ts do together, which are its parts but for the first n; these have values
+  pub record IsTogether (t : Tree) (j : Joint) (n : ℕ) (ts : List Tree) : Type 0 where
+    pub before : List Tree
+    pub parts : parts_of known t ≡ before ++ ts
+    pub place : length before ≡ n
+    pub values : Every (HasValue known) before
+    pub gives : answer known t ≡ option_map (joined j) (answers known (trees_of ts))
 
   -- ---- the ids of an each
 

@@ -15,8 +15,9 @@ use Rattle.dl_desk.specs.declared.reply.LoadReply.{LoadReply}
 use Rattle.dl_history.specs.Entries.{cell_of_load}
 use Rattle.dl_history.specs.History.{past}
 use Rattle.dl_picture.specs.Numbers.{round_events}
-use Rattle.dl_terms.specs.Tree.{Tree, ended, load, pick, follow, each, all, Trees, no_trees, tree}
-use Rattle.dl_terms.specs.TermAnswers.{answer, picked, Target, target_in, Targets, targets_in}
+use Rattle.serde_json.specs.Data.{Data, Items, no_items, item}
+use Rattle.dl_terms.specs.Tree.{Tree, ended, load, pick, follow, each, all, over, the_item, named, Trees, no_trees, tree}
+use Rattle.dl_terms.specs.TermAnswers.{answer, answer_at, Listed, listed, picked, Target, target_in, Targets, targets_in}
 use Rattle.dl_terms.specs.View.{term_view}
 use Rattle.dl_terms.specs.declared.answer.Answer.{Answer}
 use Rattle.dl_terms.specs.declared.plan.Plan.{Plan}
@@ -44,21 +45,37 @@ abbrev pub loads_after : Option Answer → (Answer → ℕ) → ℕ
 loads_after None next = 0
 loads_after (Some a) next = next a
 
+-- a copy of a body for each item
+abbrev pub copy_loads : (Data → ℕ) → Items → ℕ
+copy_loads copy no_items = 0
+copy_loads copy (item d ds) = copy d + copy_loads copy ds
+
+abbrev pub copies_load : (Data → ℕ) → Listed → ℕ
+copies_load copy (Listed.items ds) = copy_loads copy ds
+copies_load copy (Listed.none f) = 0
+
 module _ (known : Key → Option Outcome) where
   abbrev mutual
-    -- how many loads the term asks for, if `known` gives the outcome of each key that has one: a load is one; a follow
-    -- asks for one more than its part, and an each for one for each id, unless the part gives no such ids
-    pub term_loads : Tree → ℕ
-    term_loads (ended a) = 0
-    term_loads (load k) = 1
-    term_loads (pick t field) = term_loads t
-    term_loads (follow t field table) = term_loads t + loads_after (answer known t) (λ a. target_loads (target_in table (picked field a)))
-    term_loads (each t field table) = term_loads t + loads_after (answer known t) (λ a. targets_loads (targets_in table (picked field a)))
-    term_loads (all ts) = all_loads ts
+    -- how many loads the term asks for, if `known` gives the outcome of each key that has one, and i is the item around
+    -- it: a load is one; a follow asks for one more than its part, an each for one for each id, and an over for those of
+    -- the body for each item, unless the part gives none
+    pub loads_at : Option Data → Tree → ℕ
+    loads_at i (ended a) = 0
+    loads_at i (load k) = 1
+    loads_at i (pick t field) = loads_at i t
+    loads_at i (follow t field table) = loads_at i t + loads_after (answer_at known i t) (λ a. target_loads (target_in table (picked field a)))
+    loads_at i (each t field table) = loads_at i t + loads_after (answer_at known i t) (λ a. targets_loads (targets_in table (picked field a)))
+    loads_at i (all ts) = all_loads_at i ts
+    loads_at i (over t body) = loads_at i t + loads_after (answer_at known i t) (λ a. copies_load (λ d. loads_at (Some d) body) (listed a))
+    loads_at i the_item = 0
+    loads_at i (named names ts) = all_loads_at i ts
 
-    pub all_loads : Trees → ℕ
-    all_loads no_trees = 0
-    all_loads (tree t ts) = term_loads t + all_loads ts
+    pub all_loads_at : Option Data → Trees → ℕ
+    all_loads_at i no_trees = 0
+    all_loads_at i (tree t ts) = loads_at i t + all_loads_at i ts
+
+  abbrev pub term_loads : Tree → ℕ
+  term_loads t = loads_at None t
 
 -- ---- what a term reads
 

@@ -171,8 +171,8 @@ fn loads_known(
         history,
         cells,
     };
-    let asking = known.ask(term)?;
-    Ok((asking.loads, !asking.part.waits()))
+    let asking = known.ask(term, None)?;
+    Ok((asking.loads, asking.answer.is_some()))
 }
 
 /// Reads the loads of a round.

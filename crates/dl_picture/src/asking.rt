@@ -1,128 +1,159 @@
-//! What a part of a term asked for, and what it answers.
+//! What parts of a term asked for, and what they answer.
 
-ghost use Rattle.std.specs.Prelude.{◌≡◌, ◌+◌, ◌||◌, ℕ, IfOk, Option, Some, is_some, not, option_map};
-ghost use Rattle.dl_values.specs.Key.{Key};
-ghost use Rattle.dl_picture.specs.Asking.{Asks, HasNoField, IsPart, IsPicked};
-ghost use Rattle.serde_json.specs.Find.{get};
-ghost use Rattle.serde_json.specs.View.{view};
-ghost use Rattle.dl_terms.specs.TermAnswers.{loaded, picked};
+ghost use Rattle.std.specs.Prelude.{◌≡◌, ◌+◌, Option, Some, List, [], IfOk, MatchResult, OnOk, option_map};
+ghost use Rattle.serde_json.specs.View.{items_of};
+ghost use Rattle.dl_terms.specs.TermAnswers.{both, gather, joined_as, joined_data};
 ghost use Rattle.dl_terms.specs.declared.answer.Answer.{Answer};
+ghost use Rattle.dl_terms.specs.declared.answer.Answer.TheVariants as answer;
+ghost use Rattle.dl_picture.specs.Asking.{Asks, IsNoValue, joint_by};
+ghost use Rattle.dl_picture.specs.Together.{so_far};
 
 use crate::loads::sum;
-use dl_desk::Outcome;
+use dl_terms::{Answer, AnswerValue, EvalFault};
 use dl_values::Text;
-use serde_json::Value;
-use std::alloc::AllocError;
+use std::alloc::{AllocError, Global};
 
-/// What a part of a term answers, as far as the rest of the term goes on from it.
-#[derive(Clone, Copy)]
-pub(crate) enum Part<'a> {
-    /// Nothing: it waits for a key that wasn't read.
-    Waits,
-    /// A fault, or a list of values: it has no field.
-    Bare,
-    /// This value.
-    Row(&'a Value),
-}
-
-/// The value of a field, or what a term answers that needs it and can't have it.
-pub(crate) type Picked<'a> = Result<&'a Value, Part<'a>>;
-
-/// How many loads a part of a term asked for, and what it answers.
-#[derive(Clone, Copy)]
-pub(crate) struct Asking<'a> {
+/// How many loads a part of a term asked for, and its answer, unless it waits for a key that wasn't read.
+#[derive(Drop)]
+pub(crate) struct Asking {
     pub(crate) loads: u64,
-    pub(crate) part: Part<'a>,
+    pub(crate) answer: Option<Answer>,
 }
 
-impl<'a> Asking<'a> {
-    /// The same of a pick of a field.
-    pub(crate) fn pick(self, field: &Text) -> Asking<'a>
-        ensures { (n : ℕ) (a : Option Answer) → Asks n a self.entry → Asks n (option_map (picked field.now) a) result }
+impl Asking {
+    /// An answer without a load.
+    pub(crate) fn of(answer: Answer) -> Asking
+        ensures { Asks 0 (Some answer) result }
     {
         Asking {
-            loads: self.loads,
-            part: Part::of_field(self.part.pick(field)),
+            loads: 0,
+            answer: Some(answer),
         }
     }
 
-    /// The same with the loads of what goes on from it, and what that answers. Fails if no number holds the loads.
-    pub(crate) fn and_then(self, next: Asking<'a>) -> Result<Asking<'a>, AllocError>
-        ensures { IfOk result (λ both. (both.loads ≡ self.entry.loads + next.entry.loads) × (both.part ≡ next.entry.part)) }
+    /// The loads and the value, from which more may go on, or itself if it has no value.
+    pub(crate) fn into_value(self) -> Result<(u64, AnswerValue), Asking>
+        ensures { MatchResult result (λ p. Asks p.0 (Some (answer.Value p.1)) self) (λ asking. (asking ≡ self) × IsNoValue self.answer) }
     {
-        let loads = sum(self.loads, next.loads)?;
+        let Asking { loads, answer } = self;
+        match answer {
+            Some(Answer::Value(value)) => Ok((loads, value)),
+            Some(Answer::Fault(fault)) => Err(Asking {
+                loads,
+                answer: Some(Answer::Fault(fault)),
+            }),
+            None => Err(Asking {
+                loads,
+                answer: None,
+            }),
+        }
+    }
+
+    /// The same with the loads of what it goes on from. Fails if no number holds the loads.
+    pub(crate) fn after(self, loads: u64) -> Result<Asking, AllocError>
+        ensures { IfOk result (Asks (loads + self.loads) self.answer) }
+    {
+        let Asking {
+            loads: more,
+            answer,
+        } = self;
+        let loads = sum(loads, more)?;
+        Ok(Asking { loads, answer })
+    }
+}
+
+/// What parts asked for and answer together, one after another.
+#[derive(Drop)]
+pub(crate) struct Together {
+    pub(crate) loads: u64,
+    /// Whether one of them waits.
+    waits: bool,
+    /// The fault of the leftmost that has one.
+    fault: Option<EvalFault>,
+    /// The values of those without.
+    values: Vec<AnswerValue>,
+}
+
+impl Together {
+    /// Of no parts yet.
+    pub(crate) fn new(alloc: Global) -> Together
+        ensures loads { result.loads ≡ 0 }
+        ensures gives { (rest : Option (List Answer)) → so_far result rest ≡ option_map gather rest }
+    {
+        Together {
+            loads: 0,
+            waits: false,
+            fault: None,
+            values: Vec::new(alloc),
+        }
+    }
+
+    /// With one part more. Fails if no number holds the loads, or if memory runs out.
+    pub(crate) fn push(&mut self, asking: Asking) -> Result<(), AllocError>
+        ensures loads { OnOk result (self.new.loads ≡ self.old.loads + asking.loads) }
+        ensures gives { OnOk result ((rest : Option (List Answer)) → so_far self.new rest ≡ so_far self.old (both asking.answer rest)) }
+    {
+        let Asking { loads, answer } = asking;
+        self.loads = sum(self.loads, loads)?;
+        match answer {
+            Some(Answer::Value(value)) => self.values.push(value)?,
+            Some(Answer::Fault(fault)) => self.note(fault),
+            None => self.waits = true,
+        }
+        Ok(())
+    }
+
+    /// With a fault, if it is the first.
+    fn note(&mut self, fault: EvalFault)
+        ensures loads { self.new.loads ≡ self.old.loads }
+        ensures gives { (rest : Option (List Answer)) → so_far self.new rest ≡ so_far self.old (both (Some (answer.Fault fault)) rest) }
+    {
+        if self.fault.is_none() {
+            self.fault = Some(fault);
+        }
+    }
+
+    /// What they ask for, and their list, or the object of these names. Fails if memory runs out.
+    pub(crate) fn finish(
+        self,
+        alloc: Global,
+        names: Option<&Vec<Text>>,
+    ) -> Result<Asking, AllocError>
+        ensures { IfOk result (Asks self.loads (option_map (joined_as (joint_by names)) (so_far self (Some [])))) }
+    {
+        let Together {
+            loads,
+            waits,
+            fault,
+            values,
+        } = self;
+        if waits {
+            return Ok(Asking {
+                loads,
+                answer: None,
+            });
+        }
+        let answer = match fault {
+            Some(fault) => Answer::Fault(fault),
+            None => Answer::Value(joined(alloc, names, values)?),
+        };
         Ok(Asking {
             loads,
-            part: next.part,
+            answer: Some(answer),
         })
     }
 }
 
-impl<'a> Part<'a> {
-    /// What the load of a key answers that got this outcome.
-    pub(crate) fn of_outcome(outcome: &'a Outcome) -> Part<'a>
-        ensures { (key : Key) → IsPart (Some (loaded key outcome.now)) result }
-    {
-        match outcome {
-            Outcome::Value(row) => Part::Row(row.value()),
-            Outcome::KeyError(_) => Part::Bare,
-            Outcome::BatchFailed(_) => Part::Bare,
-        }
-    }
-
-    /// What several parts answer together, of which one may wait.
-    pub(crate) fn of_several(waits: bool) -> Part<'a>
-        ensures { (a : Option Answer) → is_some a ≡ not waits → ((b : Answer) → a ≡ Some b → HasNoField b) → IsPart a result }
-    {
-        if waits { Part::Waits } else { Part::Bare }
-    }
-
-    /// Whether it waits.
-    pub(crate) fn waits(self) -> bool
-        ensures { (a : Option Answer) → IsPart a self.entry → is_some a ≡ not result }
-    {
-        match self {
-            Part::Waits => true,
-            Part::Bare => false,
-            Part::Row(_) => false,
-        }
-    }
-
-    /// The part whose answer is a field.
-    pub(crate) fn of_field(field: Picked<'a>) -> Part<'a>
-        ensures { (a : Option Answer) → IsPicked a field.entry → IsPart a result }
-    {
-        match field {
-            Ok(value) => Part::Row(value),
-            Err(part) => part,
-        }
-    }
-
-    /// A field of it.
-    pub(crate) fn pick(self, field: &Text) -> Picked<'a>
-        ensures { (a : Option Answer) → IsPart a self.entry → IsPicked (option_map (picked field.now) a) result }
-    {
-        match self {
-            Part::Waits => Err(Part::Waits),
-            Part::Bare => Err(Part::Bare),
-            Part::Row(value) => match member(value, field) {
-                Some(found) => Ok(found),
-                None => Err(Part::Bare),
-            },
-        }
-    }
-}
-
-/// The member of this name, if the value is an object that has one.
-fn member<'a>(value: &'a Value, name: &Text) -> Option<&'a Value>
-    ensures { option_map (λ v. view v.now) result ≡ get name.now (view value.now) }
+/// The list of values, or the object of these names. Fails if memory runs out.
+pub(crate) fn joined(
+    alloc: Global,
+    names: Option<&Vec<Text>>,
+    values: Vec<AnswerValue>,
+) -> Result<AnswerValue, AllocError>
+    ensures { IfOk result (λ v. v ≡ joined_data (joint_by names) (items_of values.items)) }
 {
-    value.get(name.as_str())
-}
-
-/// Whether one of two holds.
-pub(crate) fn either(one: bool, other: bool) -> bool
-    ensures { result ≡ (one || other) }
-{
-    one || other
+    match names {
+        None => Ok(AnswerValue::list(values)),
+        Some(names) => AnswerValue::object(alloc, names, values),
+    }
 }

@@ -3,10 +3,9 @@
 ghost use Rattle.std.specs.Prelude.{◌≡◌, ◌∷◌, [], ℕ, Option, Some, IfOk, reverse};
 ghost use Rattle.dl_values.specs.Key.{Key};
 ghost use Rattle.dl_values.specs.declared.outcome.Outcome.{Outcome};
-ghost use Rattle.dl_picture.specs.FaultPath.{ComesFrom, EndsWith, IsLeftmost};
+ghost use Rattle.dl_picture.specs.FaultPath.{ComesFrom, IsLeftmost, IsOf};
 ghost use Rattle.dl_terms.specs.Tree.{Tree};
 ghost use Rattle.dl_terms.specs.TermAnswers.{answer};
-ghost use Rattle.dl_terms.specs.View.{term_view};
 ghost use Rattle.dl_terms.specs.declared.answer.Answer.TheVariants.{Fault};
 
 use dl_terms::{AnswerValue, EvalFault, Term};
@@ -18,12 +17,14 @@ use std::alloc::{AllocError, Global};
 pub enum Met {
     /// The outcome of its key, which the fault has.
     Outcome,
-    /// The value of its own part, which doesn't have the field.
+    /// The value of its own part, which doesn't have the field or is no list to go over.
     Whole(AnswerValue),
     /// The value of that field.
     Field(Value),
     /// An item of the list in that field, by its place from 0.
     Item(usize, Value),
+    /// Nothing: it is an item in the body of no `Over`.
+    Nothing,
 }
 
 /// A step from a term into one of its parts.
@@ -31,7 +32,7 @@ pub enum Met {
 pub struct PathStep<'t> {
     /// The term.
     pub term: &'t Term,
-    /// The number of the part, from 0.
+    /// The number of the part, from 0. Those of an `Over` are its part and, from 1 on, the copies of its body for each item.
     pub part: usize,
 }
 
@@ -69,8 +70,8 @@ impl<'t> Origin<'t> {
 
     /// The origin of a term's fault that comes from its part of this number. Fails if memory runs out.
     pub(crate) fn above(mut self, term: &'t Term, part: usize) -> Result<Origin<'t>, AllocError>
-        ensures { (known : Key → Option Outcome) (q : Tree) → ComesFrom known q self.entry → IsLeftmost known (term_view term.now) part q
-            → answer known (term_view term.now) ≡ Some (Fault self.entry.fault) → IfOk result (ComesFrom known (term_view term.now)) }
+        ensures { (known : Key → Option Outcome) (t q : Tree) → IsOf t term.now → ComesFrom known q self.entry → IsLeftmost known t part q
+            → answer known t ≡ Some (Fault self.entry.fault) → IfOk result (ComesFrom known t) }
     {
         self.path.push(PathStep { term, part })?;
         Ok(self)

@@ -94,7 +94,7 @@ fn ending_known<'t>(
         history,
         cells,
     };
-    known.seek(term)
+    known.seek(term, None)
 }
 
 /// The origin of the fault with which a term ends, if it does.

@@ -11,9 +11,9 @@ use indexmap::IndexMap;
 use std::alloc::{AllocError, Global};
 use std::hash::RandomState;
 
-/// A part of a term that waits.
+/// What waits for a load.
 #[derive(Clone, Copy)]
-pub(crate) enum Waiting<'t> {
+pub(crate) enum Loading<'t> {
     /// The load of a key.
     Load(&'t FetchKey),
     /// A follow of a field.
@@ -22,21 +22,43 @@ pub(crate) enum Waiting<'t> {
     Each(&'t Text),
 }
 
+/// The parts of a term that wait.
+#[derive(Drop)]
+pub(crate) struct Waiting<'t> {
+    /// The leftmost.
+    pub(crate) first: Loading<'t>,
+    /// In bodies, the places of the items around it, the innermost first.
+    pub(crate) places: Vec<usize>,
+    /// How many others there are.
+    pub(crate) others: u64,
+}
+
 impl Waiting<'_> {
+    /// Appends the first: the places of the items, its form, and the key or the field.
+    fn push_to(&self, sheet: &mut Sheet) {
+        for place in self.places.iter().rev() {
+            sheet.push_number("item ", *place as u64);
+            sheet.push(": ");
+        }
+        self.first.push_to(sheet);
+    }
+}
+
+impl Loading<'_> {
     /// Appends it: its form, and the key or the field.
     fn push_to(self, sheet: &mut Sheet) {
         match self {
-            Waiting::Load(key) => {
+            Loading::Load(key) => {
                 sheet.push("load ");
                 sheet.push(key.table());
                 sheet.push("/");
                 sheet.push(key.id());
             }
-            Waiting::Follow(field) => {
+            Loading::Follow(field) => {
                 sheet.push("follow ");
                 sheet.push(field.as_str());
             }
-            Waiting::Each(field) => {
+            Loading::Each(field) => {
                 sheet.push("each ");
                 sheet.push(field.as_str());
             }
@@ -136,10 +158,10 @@ fn push_parts(
             history,
             cells: &cells,
         };
-        match (known.waiting(term)?, rounds.get(place)) {
-            (Some((first, others)), Some(round)) => {
+        match (known.waiting(term, None)?, rounds.get(place)) {
+            (Some(waiting), Some(round)) => {
                 let step = round.others.saturating_add(number);
-                parts.push(part_text(alloc, step, first, others)?)?;
+                parts.push(part_text(alloc, step, &waiting)?)?;
                 read_round(&mut cells, round.event)?;
             }
             _ => return Ok(()),
@@ -149,18 +171,13 @@ fn push_parts(
 }
 
 /// The text of a step's number, the first part that waits, and how many others do.
-fn part_text(
-    alloc: Global,
-    step: u64,
-    first: Waiting<'_>,
-    others: u64,
-) -> Result<String, AllocError> {
+fn part_text(alloc: Global, step: u64, waiting: &Waiting<'_>) -> Result<String, AllocError> {
     let mut sheet = Sheet::new(alloc);
     sheet.push_number("eval ", step);
     sheet.push(": ");
-    first.push_to(&mut sheet);
-    if others > 0 {
-        sheet.push_number(" +", others);
+    waiting.push_to(&mut sheet);
+    if waiting.others > 0 {
+        sheet.push_number(" +", waiting.others);
     }
     sheet.finish()
 }

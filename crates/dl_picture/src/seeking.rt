@@ -1,51 +1,36 @@
 //! What a term ends with, by the outcomes of the loads that were read, and where its fault comes from.
 
-ghost use Rattle.std.specs.Prelude.{◌≡◌, ◌++◌, ◌∷◌, [], ℕ, List, None, Some, Option, IfOk, IfNone, IfSome, length, map};
+ghost use Rattle.std.specs.Prelude.{◌≡◌, ◌≤◌, [], ℕ, List, None, Some, IfOk, IfNone, IfSome, map, option_copied};
 ghost use Rattle.std.specs.List.{AllZip};
 ghost use Rattle.serde_json.specs.Data.{Data};
 ghost use Rattle.serde_json.specs.Find.{get};
 ghost use Rattle.serde_json.specs.View.{items_view, view};
 ghost use Rattle.serde_json.specs.declared.value.Value.{Value as JsonValue};
-ghost use Rattle.dl_picture.specs.Asking.{known_of};
-ghost use Rattle.dl_picture.specs.FaultPath.{EndsWith, MayEndWith};
-ghost use Rattle.dl_picture.specs.Seeking.{AreItems, AreTogether, EndsInside, Gathers, IsOver, MayBeItem};
-ghost use Rattle.dl_terms.specs.Tree.{Tree, all, each, follow, load, pick};
-ghost use Rattle.dl_terms.specs.TermAnswers.{answer, item_targets, load_answer, loaded, target_answer, target_answers, value_target};
+ghost use Rattle.dl_picture.specs.Asking.{joint_by, known_of};
+ghost use Rattle.dl_picture.specs.FaultPath.{EndsWith, IsOf, MayEndWith, at_item};
+ghost use Rattle.dl_picture.specs.Seeking.{AreItems, AreTogether, EndsInside, Gathers, IsOver, IsTogether, MayBeItem};
+ghost use Rattle.dl_terms.specs.Tree.{Tree, each, follow, load, over, pick, the_item, with_item};
+ghost use Rattle.dl_terms.specs.TermAnswers.{answer, answers, item_targets, load_answer, target_answer, target_answers, value_target};
 ghost use Rattle.dl_terms.specs.declared.answer.Answer.TheVariants as answer;
-ghost use Rattle.dl_terms.specs.View.{term_view, terms_view};
+ghost use Rattle.dl_terms.specs.View.{term_view, trees_of};
 
+use crate::asking::joined;
 use crate::knowledge::{Knowledge, MOST_ITEMS};
 use crate::origin::{Ending, Met, Origin};
-use dl_desk::{FetchKey, Outcome};
-use dl_terms::{Answer, AnswerValue, EvalFault, Term};
+use dl_desk::FetchKey;
+use dl_terms::{Answer, AnswerValue, EvalFault, Term, loaded};
 use dl_values::{Json, Text};
 use serde_json::Value;
 use std::alloc::{AllocError, Global};
 
-/// What a load of the key answers. Fails if a reference count would overflow.
-fn loaded(key: &FetchKey, outcome: &Outcome) -> Result<Answer, AllocError>
-    ensures { IfOk result (λ a. a ≡ loaded key.now outcome.now) }
-{
-    match outcome {
-        Outcome::Value(row) => Ok(Answer::Value(AnswerValue::row(row.try_copy()?))),
-        Outcome::KeyError(text) => {
-            let (key, text) = (key.try_copy()?, text.try_copy()?);
-            Ok(Answer::Fault(EvalFault::Key { key, text }))
-        }
-        Outcome::BatchFailed(fault) => {
-            let (key, fault) = (key.try_copy()?, fault.try_copy()?);
-            Ok(Answer::Fault(EvalFault::Batch { key, fault }))
-        }
-    }
-}
-
-/// What several parts end with together: the list of their values, or the first fault and its place. Fails if memory
-/// runs out.
+/// What several parts end with together: their values, as a list or as the object of these names, or the first fault and
+/// its place. Fails if memory runs out.
 fn gathered<'t>(
     alloc: Global,
+    names: Option<&Vec<Text>>,
     endings: Vec<Ending<'t>>,
 ) -> Result<Result<AnswerValue, (usize, Origin<'t>)>, AllocError>
-    ensures { IfOk result (Gathers endings.entry.items) }
+    ensures { IfOk result (Gathers (joint_by names) endings.entry.items) }
 {
     let mut values = Vec::with_capacity(alloc, endings.len())?;
     for ending in endings {
@@ -54,7 +39,7 @@ fn gathered<'t>(
             Err(origin) => return Ok(Err((values.len(), origin))),
         }
     }
-    Ok(Ok(AnswerValue::list(values)))
+    Ok(Ok(joined(alloc, names, values)?))
 }
 
 impl Knowledge<'_, '_> {
@@ -84,7 +69,7 @@ impl Knowledge<'_, '_> {
         term: &'t Term,
         key: &FetchKey,
     ) -> Result<Option<Ending<'t>>, AllocError>
-        ensures { term_view term.now ≡ load key.now → IfOk result (MayEndWith (known_of self.now) (term_view term.now)) }
+        ensures { (t : Tree) → IsOf t term.now → t ≡ load key.now → IfOk result (MayEndWith (known_of self.now) t) }
     {
         match self.answer_of_key(key)? {
             None => Ok(None),
@@ -95,15 +80,29 @@ impl Knowledge<'_, '_> {
         }
     }
 
+    /// What an item ends with in the body of this one, or in none.
+    fn seek_item<'t>(
+        &self,
+        term: &'t Term,
+        item: Option<&AnswerValue>,
+    ) -> Result<Option<Ending<'t>>, AllocError>
+        ensures { term_view term.now ≡ the_item → IfOk result (MayEndWith (known_of self.now) (at_item (option_copied item) (term_view term.now))) }
+    {
+        match item {
+            None => Ok(Some(Err(Origin::own(self.alloc, term, EvalFault::NoItem, Met::Nothing)))),
+            Some(item) => Ok(Some(Ok(AnswerValue::row(item.to_json(self.alloc)?)))),
+        }
+    }
+
     /// What a pick ends with whose part has this value.
-    fn seek_pick<'t>(
+    fn pick_of<'t>(
         &self,
         term: &'t Term,
         value: AnswerValue,
         field: &Text,
     ) -> Result<Option<Ending<'t>>, AllocError>
-        ensures { (q : Tree) → answer (known_of self.now) q ≡ Some (answer.Value value) → term_view term.now ≡ pick q field.now
-            → IfOk result (MayEndWith (known_of self.now) (term_view term.now)) }
+        ensures { (t q : Tree) → answer (known_of self.now) q ≡ Some (answer.Value value) → IsOf t term.now → t ≡ pick q field.now
+            → IfOk result (MayEndWith (known_of self.now) t) }
     {
         match value.get(field.as_str()) {
             None => Ok(Some(Err(self.lacks(term, value)))),
@@ -125,15 +124,15 @@ impl Knowledge<'_, '_> {
     }
 
     /// What a follow ends with whose part has this value.
-    fn seek_follow<'t>(
+    fn follow_of<'t>(
         &self,
         term: &'t Term,
         value: AnswerValue,
         field: &Text,
         table: &Text,
     ) -> Result<Option<Ending<'t>>, AllocError>
-        ensures { (q : Tree) → answer (known_of self.now) q ≡ Some (answer.Value value) → term_view term.now ≡ follow q field.now table.now
-            → IfOk result (MayEndWith (known_of self.now) (term_view term.now)) }
+        ensures { (t q : Tree) → answer (known_of self.now) q ≡ Some (answer.Value value) → IsOf t term.now → t ≡ follow q field.now table.now
+            → IfOk result (MayEndWith (known_of self.now) t) }
     {
         match value.get(field.as_str()) {
             None => Ok(Some(Err(self.lacks(term, value)))),
@@ -149,15 +148,15 @@ impl Knowledge<'_, '_> {
     }
 
     /// What an each ends with whose part has this value.
-    fn seek_each<'t>(
+    fn each_of<'t>(
         &self,
         term: &'t Term,
         value: AnswerValue,
         field: &Text,
         table: &Text,
     ) -> Result<Option<Ending<'t>>, AllocError>
-        ensures { (q : Tree) → answer (known_of self.now) q ≡ Some (answer.Value value) → term_view term.now ≡ each q field.now table.now
-            → IfOk result (MayEndWith (known_of self.now) (term_view term.now)) }
+        ensures { (t q : Tree) → answer (known_of self.now) q ≡ Some (answer.Value value) → IsOf t term.now → t ≡ each q field.now table.now
+            → IfOk result (MayEndWith (known_of self.now) t) }
     {
         match value.get(field.as_str()) {
             None => Ok(Some(Err(self.lacks(term, value)))),
@@ -172,8 +171,8 @@ impl Knowledge<'_, '_> {
         table: &Text,
         ids: &Value,
     ) -> Result<Option<Ending<'t>>, AllocError>
-        ensures { (q : Tree) (d : Data) (field : List ℕ) → answer (known_of self.now) q ≡ Some (answer.Value d) → get field d ≡ Some (view ids.now)
-            → term_view term.now ≡ each q field table.now → IfOk result (MayEndWith (known_of self.now) (term_view term.now)) }
+        ensures { (t q : Tree) (d : Data) (field : List ℕ) → answer (known_of self.now) q ≡ Some (answer.Value d) → get field d ≡ Some (view ids.now)
+            → IsOf t term.now → t ≡ each q field table.now → IfOk result (MayEndWith (known_of self.now) t) }
     {
         match ids.as_array() {
             None => Ok(Some(Err(self.no_ids(term, EvalFault::NotAList, ids)?))),
@@ -213,7 +212,7 @@ impl Knowledge<'_, '_> {
     {
         match self.rows_of(term, table, ids)? {
             None => Ok(None),
-            Some(rows) => match gathered(self.alloc, rows)? {
+            Some(rows) => match gathered(self.alloc, None, rows)? {
                 Ok(values) => Ok(Some(Ok(values))),
                 Err((_, origin)) => Ok(Some(Err(origin))),
             },
@@ -260,15 +259,14 @@ impl Knowledge<'_, '_> {
         }
     }
 
-    /// The value of a term's only part, which ends so, or what the term ends with if that has none.
+    /// The value of a term's first part, which ends so, or what the term ends with if that has none.
     fn inside<'t>(
         &self,
         term: &'t Term,
-        part: &Term,
         ending: Option<Ending<'t>>,
     ) -> Result<Result<AnswerValue, Option<Ending<'t>>>, AllocError>
-        ensures { IsOver (known_of self.now) (term_view term.now) (term_view part.now) → MayEndWith (known_of self.now) (term_view part.now) ending.entry
-            → IfOk result (EndsInside (known_of self.now) (term_view term.now) (term_view part.now)) }
+        ensures { (t q : Tree) → IsOf t term.now → IsOver (known_of self.now) t q → MayEndWith (known_of self.now) q ending.entry
+            → IfOk result (EndsInside (known_of self.now) t q) }
     {
         match ending {
             None => Ok(Err(None)),
@@ -277,66 +275,195 @@ impl Knowledge<'_, '_> {
         }
     }
 
-    /// What an all ends with whose parts end so, or of which one waits.
+    /// What a pick ends with whose part ends so.
+    fn seek_pick<'t>(
+        &self,
+        term: &'t Term,
+        part: Option<Ending<'t>>,
+        field: &Text,
+    ) -> Result<Option<Ending<'t>>, AllocError>
+        ensures { (t q : Tree) → IsOf t term.now → t ≡ pick q field.now → MayEndWith (known_of self.now) q part.entry → IfOk result (MayEndWith (known_of self.now) t) }
+    {
+        match self.inside(term, part)? {
+            Ok(value) => self.pick_of(term, value, field),
+            Err(ending) => Ok(ending),
+        }
+    }
+
+    /// What a follow ends with whose part ends so.
+    fn seek_follow<'t>(
+        &self,
+        term: &'t Term,
+        part: Option<Ending<'t>>,
+        field: &Text,
+        table: &Text,
+    ) -> Result<Option<Ending<'t>>, AllocError>
+        ensures { (t q : Tree) → IsOf t term.now → t ≡ follow q field.now table.now → MayEndWith (known_of self.now) q part.entry → IfOk result (MayEndWith (known_of self.now) t) }
+    {
+        match self.inside(term, part)? {
+            Ok(value) => self.follow_of(term, value, field, table),
+            Err(ending) => Ok(ending),
+        }
+    }
+
+    /// What an each ends with whose part ends so.
+    fn seek_each<'t>(
+        &self,
+        term: &'t Term,
+        part: Option<Ending<'t>>,
+        field: &Text,
+        table: &Text,
+    ) -> Result<Option<Ending<'t>>, AllocError>
+        ensures { (t q : Tree) → IsOf t term.now → t ≡ each q field.now table.now → MayEndWith (known_of self.now) q part.entry → IfOk result (MayEndWith (known_of self.now) t) }
+    {
+        match self.inside(term, part)? {
+            Ok(value) => self.each_of(term, value, field, table),
+            Err(ending) => Ok(ending),
+        }
+    }
+
+    /// What a term ends with whose parts, from this number on, end so, or of which one waits: as the list of their values
+    /// or as the object of these names.
     fn together<'t>(
         &self,
         term: &'t Term,
-        parts: &[Term],
+        number: usize,
+        names: Option<&Vec<Text>>,
         endings: Option<Vec<Ending<'t>>>,
     ) -> Result<Option<Ending<'t>>, AllocError>
-        ensures { term_view term.now ≡ all (terms_view parts.now)
-            → IfSome endings.entry (λ es. AllZip (EndsWith (known_of self.now)) (map term_view parts.now) es.items)
-            → IfNone endings.entry (answer (known_of self.now) (all (terms_view parts.now)) ≡ None)
-            → IfOk result (MayEndWith (known_of self.now) (term_view term.now)) }
+        requires { number ≤ 1 }
+        ensures { (t : Tree) (ts : List Tree) → IsOf t term.now → IsTogether (known_of self.now) t (joint_by names) number ts
+            → IfSome endings.entry (λ es. AllZip (EndsWith (known_of self.now)) ts es.items)
+            → IfNone endings.entry (answers (known_of self.now) (trees_of ts) ≡ None) → IfOk result (MayEndWith (known_of self.now) t) }
     {
         match endings {
             None => Ok(None),
-            Some(endings) => match gathered(self.alloc, endings)? {
-                Ok(values) => Ok(Some(Ok(values))),
-                Err((place, origin)) => Ok(Some(Err(origin.above(term, place)?))),
+            Some(endings) => match gathered(self.alloc, names, endings)? {
+                Ok(value) => Ok(Some(Ok(value))),
+                Err((place, origin)) => Ok(Some(Err(origin.above(term, number + place)?))),
             },
         }
     }
 
-    /// What a term ends with, or `None` if it waits. Fails if memory runs out.
+    /// What a term ends with, in a body with this item or in none, or `None` if it waits. Fails if memory runs out.
     #[cycle(seeking)]
-    pub(crate) fn seek<'t>(&self, term: &'t Term) -> Result<Option<Ending<'t>>, AllocError>
-        ensures { IfOk result (MayEndWith (known_of self.now) (term_view term.now)) }
+    pub(crate) fn seek<'t>(
+        &self,
+        term: &'t Term,
+        item: Option<&AnswerValue>,
+    ) -> Result<Option<Ending<'t>>, AllocError>
+        ensures { IfOk result (MayEndWith (known_of self.now) (at_item (option_copied item) (term_view term.now))) }
     {
         match term {
             Term::Value(value) => Ok(Some(Ok(AnswerValue::row(value.try_copy()?)))),
             Term::Load(key) => self.seek_load(term, key),
-            Term::Pick { part, field } => match self.inside(term, part, self.seek(part)?)? {
-                Ok(value) => self.seek_pick(term, value, field),
-                Err(ending) => Ok(ending),
-            },
+            Term::Item => self.seek_item(term, item),
+            Term::Pick { part, field } => self.seek_pick(term, self.seek(part, item)?, field),
             Term::Follow { part, field, table } => {
-                match self.inside(term, part, self.seek(part)?)? {
-                    Ok(value) => self.seek_follow(term, value, field, table),
-                    Err(ending) => Ok(ending),
-                }
+                self.seek_follow(term, self.seek(part, item)?, field, table)
             }
             Term::Each { part, field, table } => {
-                match self.inside(term, part, self.seek(part)?)? {
-                    Ok(value) => self.seek_each(term, value, field, table),
-                    Err(ending) => Ok(ending),
-                }
+                self.seek_each(term, self.seek(part, item)?, field, table)
             }
-            Term::All(parts) => {
-                self.together(term, parts.as_slice(), self.endings_of(parts.as_slice())?)
+            Term::Over { part, body } => self.seek_over(term, self.seek(part, item)?, body),
+            Term::All(parts) => self.seek_all(term, None, parts.as_slice(), item),
+            Term::Object { names, parts } => {
+                self.seek_all(term, Some(names), parts.as_slice(), item)
             }
         }
     }
 
-    /// What terms end with, or `None` if one waits.
+    /// What a term ends with that has these parts, as the list of their values or as the object of these names.
     #[cycle(seeking)]
-    fn endings_of<'t>(&self, terms: &'t [Term]) -> Result<Option<Vec<Ending<'t>>>, AllocError>
-        ensures endings { IfOk result (λ o. IfSome o (λ endings. AllZip (EndsWith (known_of self.now)) (map term_view terms.now) endings.items)) }
-        ensures waits { IfOk result (λ o. IfNone o (answer (known_of self.now) (all (terms_view terms.now)) ≡ None)) }
+    fn seek_all<'t>(
+        &self,
+        term: &'t Term,
+        names: Option<&Vec<Text>>,
+        parts: &'t [Term],
+        item: Option<&AnswerValue>,
+    ) -> Result<Option<Ending<'t>>, AllocError>
+        ensures { (t : Tree) → IsOf t term.now
+            → IsTogether (known_of self.now) t (joint_by names) 0 (map (λ x. at_item (option_copied item) (term_view x)) parts.now)
+            → IfOk result (MayEndWith (known_of self.now) t) }
+    {
+        let endings = self.endings_of(parts, item)?;
+        self.together(term, 0, names, endings)
+    }
+
+    /// What terms end with, in a body with this item or in none, or `None` if one waits.
+    #[cycle(seeking)]
+    fn endings_of<'t>(
+        &self,
+        terms: &'t [Term],
+        item: Option<&AnswerValue>,
+    ) -> Result<Option<Vec<Ending<'t>>>, AllocError>
+        ensures endings { IfOk result (λ o. IfSome o (λ endings. AllZip (EndsWith (known_of self.now))
+            (map (λ x. at_item (option_copied item) (term_view x)) terms.now) endings.items)) }
+        ensures waits { IfOk result (λ o. IfNone o
+            (answers (known_of self.now) (trees_of (map (λ x. at_item (option_copied item) (term_view x)) terms.now)) ≡ None)) }
     {
         let mut endings = Vec::with_capacity(self.alloc, terms.len())?;
         for term in terms {
-            match self.seek(term)? {
+            match self.seek(term, item)? {
+                None => return Ok(None),
+                Some(ending) => endings.push(ending)?,
+            }
+        }
+        Ok(Some(endings))
+    }
+
+    /// What an over ends with whose part ends so.
+    #[cycle(seeking)]
+    fn seek_over<'t>(
+        &self,
+        term: &'t Term,
+        part: Option<Ending<'t>>,
+        body: &'t Term,
+    ) -> Result<Option<Ending<'t>>, AllocError>
+        ensures { (t q : Tree) → IsOf t term.now → t ≡ over q (term_view body.now) → MayEndWith (known_of self.now) q part.entry → IfOk result (MayEndWith (known_of self.now) t) }
+    {
+        match self.inside(term, part)? {
+            Ok(value) => self.over_of(term, value, body),
+            Err(ending) => Ok(ending),
+        }
+    }
+
+    /// What an over ends with whose part has this value.
+    #[cycle(seeking)]
+    fn over_of<'t>(
+        &self,
+        term: &'t Term,
+        value: AnswerValue,
+        body: &'t Term,
+    ) -> Result<Option<Ending<'t>>, AllocError>
+        ensures { (t q : Tree) → answer (known_of self.now) q ≡ Some (answer.Value value) → IsOf t term.now → t ≡ over q (term_view body.now)
+            → IfOk result (MayEndWith (known_of self.now) t) }
+    {
+        let whole = AnswerValue::row(value.to_json(self.alloc)?);
+        match self.items(value)? {
+            Err(fault) => Ok(Some(Err(Origin::own(self.alloc, term, fault, Met::Whole(whole))))),
+            Ok(items) => {
+                let endings = self.endings_over(body, items.as_slice())?;
+                self.together(term, 1, None, endings)
+            }
+        }
+    }
+
+    /// What the copies of a body for these items end with, or `None` if one waits.
+    #[cycle(seeking)]
+    fn endings_over<'t>(
+        &self,
+        body: &'t Term,
+        items: &[AnswerValue],
+    ) -> Result<Option<Vec<Ending<'t>>>, AllocError>
+        ensures endings { IfOk result (λ o. IfSome o (λ endings. AllZip (EndsWith (known_of self.now))
+            (map (λ d. with_item d (term_view body.now)) items.now) endings.items)) }
+        ensures waits { IfOk result (λ o. IfNone o
+            (answers (known_of self.now) (trees_of (map (λ d. with_item d (term_view body.now)) items.now)) ≡ None)) }
+    {
+        let mut endings = Vec::with_capacity(self.alloc, items.len())?;
+        for item in items {
+            match self.seek(body, Some(item))? {
                 None => return Ok(None),
                 Some(ending) => endings.push(ending)?,
             }

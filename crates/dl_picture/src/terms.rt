@@ -45,48 +45,9 @@ fn push_term(alloc: Global, copies: &mut Vec<Term>, step: &Step) -> Result<(), A
 {
     match step {
         Step::Eval(term) => {
-            copies.push(copy_of(alloc, term)?)?;
+            copies.push(term.try_copy(alloc)?)?;
             Ok(())
         }
         Step::Prime(_, _) | Step::Clear(_) | Step::ClearAll => Ok(()),
     }
-}
-
-/// A copy of a term.
-#[cycle(copying)]
-fn copy_of(alloc: Global, term: &Term) -> Result<Term, AllocError>
-    ensures { IfOk result (λ copy. term_view copy ≡ term_view term.now) }
-{
-    match term {
-        Term::Value(value) => Ok(Term::Value(value.try_copy()?)),
-        Term::Load(key) => Ok(Term::Load(key.try_copy()?)),
-        Term::Pick { part, field } => {
-            let part = Box::new(alloc, copy_of(alloc, part)?)?;
-            let field = field.try_copy()?;
-            Ok(Term::Pick { part, field })
-        }
-        Term::Follow { part, field, table } => {
-            let part = Box::new(alloc, copy_of(alloc, part)?)?;
-            let (field, table) = (field.try_copy()?, table.try_copy()?);
-            Ok(Term::Follow { part, field, table })
-        }
-        Term::Each { part, field, table } => {
-            let part = Box::new(alloc, copy_of(alloc, part)?)?;
-            let (field, table) = (field.try_copy()?, table.try_copy()?);
-            Ok(Term::Each { part, field, table })
-        }
-        Term::All(parts) => Ok(Term::All(copies_of(alloc, parts.as_slice())?)),
-    }
-}
-
-/// Copies of terms.
-#[cycle(copying)]
-fn copies_of(alloc: Global, terms: &[Term]) -> Result<Vec<Term>, AllocError>
-    ensures { IfOk result (λ copies. map term_view copies.items ≡ map term_view terms.now) }
-{
-    let mut copies = Vec::with_capacity(alloc, terms.len())?;
-    for term in terms {
-        copies.push(copy_of(alloc, term)?)?;
-    }
-    Ok(copies)
 }

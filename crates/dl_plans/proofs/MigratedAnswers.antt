@@ -1,12 +1,12 @@
--- A plan file of version 1 and the migrated one have the same answers.
+-- A plan file of an earlier version and the migrated one have the same answers.
 use Rattle.std.proofs.Common.{◌≡◌, ◌∙◌, sym, ap, subst, refl, List, [], ◌∷◌, length, map, Option, Some, None}
 use Rattle.dl_values.specs.Answering.{by_function}
 use Rattle.dl_documents.specs.Steps.{StepTree, prime, eval, step_view, plan_view}
 use Rattle.dl_documents.proofs.OneReading.{SayTheSame, one_plan_file}
 use Rattle.dl_history.specs.Lists.{Every}
-use Rattle.dl_migration.specs.Migrated.{migrated}
-use Rattle.dl_migration.specs.SecondVersion.{in_second_version}
-use Rattle.dl_migration.proofs.SecondVersion.{migrated_is_the_same}
+use Rattle.dl_migration.specs.Migrated.{migrated, number_of}
+use Rattle.dl_migration.specs.LaterVersion.{in_later_version}
+use Rattle.dl_migration.proofs.LaterVersion.{migrated_is_the_same}
 use Rattle.dl_source.specs.Answer.{answer_of}
 use Rattle.dl_source.specs.Tables.{Tables}
 use Rattle.dl_scope.specs.EqualAnswers.{evaluated, evaluations, AnswersAreEqual}
@@ -81,9 +81,9 @@ plans_unprimed plans others same none =
 -- ---- answers
 
 pub migrated_answers_are_equal : AnswersAreEqual → MigratedAnswersAreEqual
-migrated_answers_are_equal equal d first second spelled version migrated_spelled none options others database r s of_first of_second =
-    let same : SayTheSame (in_second_version first) second =
-    one_plan_file (migrated d) (in_second_version first) second (migrated_is_the_same d first spelled version) migrated_spelled in
+migrated_answers_are_equal equal target d first second spelled earlier migrated_spelled none options others database r s of_first of_second =
+    let same : SayTheSame (in_later_version first) second =
+    one_plan_file (migrated (number_of target) d) (in_later_version first) second (migrated_is_the_same target d first spelled earlier) migrated_spelled in
     let tables : joined second.tables others.database ≡ joined first.tables options.database =
     ap (λ (ts : Tables). joined ts others.database) (sym same.tables) ∙ ap (joined first.tables) (sym database) in
     equal (joined first.tables options.database) first.plans.items second.plans.items r s (plans_evaluated first.plans.items second.plans.items same.plans)

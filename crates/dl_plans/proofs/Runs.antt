@@ -18,6 +18,7 @@ use Rattle.dl_documents.specs.declared.input.Input.{Input}
 use Rattle.dl_documents.specs.declared.input.Input.TheVariants as input
 use Rattle.dl_plans.specs.declared.settings.Options.{Options}
 use Rattle.dl_migration.specs.Migration.{IsMigrated, IsOther}
+use Rattle.dl_migration.specs.declared.target.Target.{Target}
 use Rattle.dl_plans.specs.Migration.{IsNotMigrated}
 use Rattle.dl_plans.specs.Run.{AppendsFront, IsDocument, read_by, IsOutput, IsRefused, Writes, WritesFront}
 use Rattle.dl_plans.specs.declared.fault.RunError.{RunError}
@@ -35,11 +36,11 @@ document_all options bytes i d = rw (all_read bytes d.small) at d
 within : (reading : Data → Data) (bytes : List ℕ) → ((f : PlanFault) → AppliesTo reading bytes f → ⊥) → length bytes ≤ most_bytes
 within reading bytes passes = elim (cases_lt most_bytes (length bytes)) [ inl many ↦ absurd (passes TooLarge many) | inr few ↦ few ]
 
-pub migrated_all : (bytes text : List ℕ) → IsMigrated (take MOST_READ bytes) text → IsMigrated bytes text
-migrated_all bytes text m = rw (all_read bytes (within (λ d. d) (take MOST_READ bytes) m.reads.passes)) at m
+pub migrated_all : (target : Target) (bytes text : List ℕ) → IsMigrated target (take MOST_READ bytes) text → IsMigrated target bytes text
+migrated_all target bytes text m = rw (all_read bytes (within (λ d. d) (take MOST_READ bytes) m.reads.passes)) at m
 
-other_all : (bytes : List ℕ) → IsOther (take MOST_READ bytes) → IsOther bytes
-other_all bytes o = rw (all_read bytes (within (λ d. d) (take MOST_READ bytes) o.reads.passes)) at o
+other_all : (target : Target) (bytes : List ℕ) → IsOther target (take MOST_READ bytes) → IsOther target bytes
+other_all target bytes o = rw (all_read bytes (within (λ d. d) (take MOST_READ bytes) o.reads.passes)) at o
 
 -- what is given for the first bytes is given for all
 abbrev pub IsForAll : (List ℕ → List ℕ → Type 0) → Type 0
@@ -172,14 +173,15 @@ pub least_all : (reading : Data → Data) (bytes : List ℕ) (f : PlanFault) →
     → IsLeast (AppliesTo reading bytes) f
 least_all reading bytes f least = refused_by reading bytes f (either_size (length bytes)) least
 
-pub not_migrated_all : (bytes : List ℕ) (e : RunError) → IsNotMigrated (take MOST_READ bytes) e → IsNotMigrated bytes e
-not_migrated_all bytes error.Read h = h
-not_migrated_all bytes (error.Refused f) h = least_all (λ d. d) bytes f h
-not_migrated_all bytes (error.Run f) h = h
-not_migrated_all bytes error.Write h = h
-not_migrated_all bytes error.OutOfMemory h = h
-not_migrated_all bytes error.NotVersion1 h = other_all bytes h
-not_migrated_all bytes (error.NoHistory f) h = h
+pub not_migrated_all : (target : Target) (bytes : List ℕ) (e : RunError) → IsNotMigrated target (take MOST_READ bytes) e → IsNotMigrated target bytes e
+not_migrated_all target bytes error.Read h = h
+not_migrated_all target bytes (error.Refused f) h = least_all (λ d. d) bytes f h
+not_migrated_all target bytes (error.Run f) h = h
+not_migrated_all target bytes error.Write h = h
+not_migrated_all target bytes error.OutOfMemory h = h
+not_migrated_all target bytes error.NotVersion1 h = (h.0, other_all target bytes h.1)
+not_migrated_all target bytes error.NotVersion1Or2 h = (h.0, other_all target bytes h.1)
+not_migrated_all target bytes (error.NoHistory f) h = h
 
 -- what an error says of the first bytes it says of all
 abbrev pub IsSaidOfAll : (List ℕ → RunError → Type 0) → Type 0
@@ -197,4 +199,5 @@ refused_all options bytes (error.Run f) h = (h.0, document_all options bytes (in
 refused_all options bytes error.Write h = h
 refused_all options bytes error.OutOfMemory h = h
 refused_all options bytes error.NotVersion1 h = h
+refused_all options bytes error.NotVersion1Or2 h = h
 refused_all options bytes (error.NoHistory f) h = h

@@ -19,7 +19,7 @@ use Rattle.dl_source.specs.Tables.{Tables}
 use Rattle.dl_source.specs.declared.table_number.TableNumber.{TableNumber}
 use Rattle.dl_documents.proofs.Findings.{both_true}
 use Rattle.dl_documents.specs.Document.{Spells, SpellsPlans, is_script}
-use Rattle.dl_documents.specs.OverDatabase.{is_second, lacks_tables, over_database, with_no_tables}
+use Rattle.dl_documents.specs.OverDatabase.{is_later, lacks_tables, over_database, with_no_tables}
 use Rattle.dl_documents.specs.OwnLimits.{TableLimits, version_by}
 use Rattle.dl_documents.specs.Tables.{SpellsNumbers}
 use Rattle.dl_documents.specs.declared.input.Input.{Input}
@@ -84,7 +84,7 @@ lists_if : (name : List ℕ) (d : Data) (lacks : Bool) → lacks_tables d ≡ la
     → lists_table name (if lacks then with_no_tables d else d) ≡ lists_table name d
 lists_if name d false h = refl
 lists_if name d true h =
-    lists_no_more name d (is_none_of (get (codes "tables") d) (both_true (is_none (get (codes "tables") d)) (not (is_script d) && is_second d) h).0)
+    lists_no_more name d (is_none_of (get (codes "tables") d) (both_true (is_none (get (codes "tables") d)) (not (is_script d) && is_later d) h).0)
 
 lists_as : (name : List ℕ) (d : Data) → lists_table name (over_database d) ≡ lists_table name d
 lists_as name d = lists_if name d (lacks_tables d) refl

@@ -1,10 +1,13 @@
 -- What a plan file answers before and after you migrate it.
-use Rattle.std.specs.Prelude.{◌≡◌, None}
+use Rattle.std.specs.Prelude.{◌≡◌}
 use Rattle.serde_json.specs.Data.{Data}
 use Rattle.dl_documents.specs.Document.{SpellsPlans}
 use Rattle.dl_documents.specs.declared.input.PlanFile.{PlanFile}
 use Rattle.dl_history.specs.Lists.{Every}
-use Rattle.dl_migration.specs.Migrated.{migrated}
+use Rattle.dl_documents.specs.declared.input.Input.TheVariants.{Plans}
+use Rattle.dl_migration.specs.Migrated.{migrated, number_of}
+use Rattle.dl_migration.specs.Migration.{IsEarlier}
+use Rattle.dl_migration.specs.declared.target.Target.{Target}
 use Rattle.dl_scope.specs.Headline.{Headline}
 use Rattle.dl_scope.specs.OwnAnswers.{NoneFailed, PrimesNoKey}
 use Rattle.dl_scope.specs.Report.{Report}
@@ -20,9 +23,10 @@ pub record IsUnfailedReport (options : Options) (file : PlanFile) (r : Report) :
   pub headline : Headline (file_service options file) file.plans.items r
   pub unfailed : NoneFailed r.history.events
 
--- A plan file of version 1 that primes no key, and the file that its tree is after migrating, have the same answers in
--- all reports in which no batch failed, over the same database or over none.
+-- A plan file of an earlier version that primes no key, and the file that its tree is after migrating, have the same
+-- answers in all reports in which no batch failed, over the same database or over none.
 abbrev pub MigratedAnswersAreEqual : Type 0
-MigratedAnswersAreEqual = (d : Data) (first second : PlanFile) → SpellsPlans d first → first.table_limits ≡ None → SpellsPlans (migrated d) second
+MigratedAnswersAreEqual = (target : Target) (d : Data) (first second : PlanFile) → SpellsPlans d first → IsEarlier target d (Plans first)
+    → SpellsPlans (migrated (number_of target) d) second
     → PrimesNone first → (options others : Options) → options.database ≡ others.database
     → (r s : Report) → IsUnfailedReport options first r → IsUnfailedReport others second s → r.answers ≡ s.answers

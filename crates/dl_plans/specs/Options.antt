@@ -1,5 +1,5 @@
 -- The command line of `plans`, and what its matches give.
-use Rattle.std.specs.Prelude.{◌≡◌, ◌≤◌, ◌↔◌, ℕ, ◌∷◌, [], List, Bool, true, false, IsTrue, pos, codes, Option, Some, None, option_map, String, string_bytes}
+use Rattle.std.specs.Prelude.{◌≡◌, ◌≤◌, ℕ, ◌∷◌, [], List, Bool, true, false, pos, codes, Option, Some, None, option_map, String, string_bytes}
 use Rattle.std.specs.String.{string_eq}
 use Rattle.std.specs.declared.alloc.Global.{Global}
 use Rattle.std.specs.Str.Parse.{digits_value, without_leading_plus, IsNumeral}
@@ -7,6 +7,8 @@ use Rattle.clap.specs.Words.{App, Shape, Row, Rule, Text, new_app, new_rule, fir
 use Rattle.clap.specs.Simple.{on_top}
 use Rattle.clap.specs.declared.builder.action.ArgAction.TheVariants.{SetTrue}
 use Rattle.clap.specs.declared.builder.value_parser.ValueParser.TheVariants as vp
+use Rattle.dl_migration.specs.Migrated.{number_of}
+use Rattle.dl_migration.specs.declared.target.Target.{Target}
 use Rattle.dl_plans.specs.declared.settings.Options.{Options}
 
 -- the most fetch workers
@@ -54,9 +56,18 @@ history_rule = record (new_rule (codes "history")) { long = Some (codes "history
 abbrev pub without_name : Shape → Shape
 without_name s = record s { no_binary_name = true }
 
--- `migrate`, which has no option
+-- `--to N`, a number that is 2 or 3, or 2 if the words don't give it
+abbrev pub to_rule : Rule
+to_rule = record (new_rule (codes "to")) {
+  long = Some (codes "to");
+  value_names = 1;
+  parser = Some (vp.Signed (pos 2) (pos 3));
+  defaults = codes "2" ∷ [];
+}
+
+-- `migrate`, with its option
 abbrev pub migrate_app : App
-migrate_app = new_app (codes "migrate")
+migrate_app = with_rule (new_app (codes "migrate")) to_rule
 
 -- the options that say how the plans are served, and what standard output has of it
 abbrev pub serving_app : App
@@ -108,6 +119,11 @@ pub record AreApart (picture trace read : Option (String Global)) : Type 0 where
   pub picture_read : have_one_name picture read ≡ false
   pub trace_read : have_one_name trace read ≡ false
 
+-- whether to write a document in another version, and in which, by the subcommand in use
+abbrev pub Migrates : Option (Text × List Row) → Option Target → Type 0
+Migrates used None = name_of used ≡ Some (codes "migrate") → ⊥
+Migrates used (Some target) = (rows : List Row) × (used ≡ Some (codes "migrate", rows)) × GivesNumber rows (codes "to") (number_of target)
+
 -- the options and the file of the database that the matches and the subcommand in use give
 pub record AreGiven (rows : List Row) (used : Option (Text × List Row)) (o : Options) (file : Option (String Global)) : Type 0 where
   pub workers : GivesNumber rows (codes "workers") o.workers
@@ -123,5 +139,5 @@ pub record AreGiven (rows : List Row) (used : Option (Text × List Row)) (o : Op
   pub trace : option_map string_bytes o.trace ≡ first_of (codes "trace") rows
   pub database : option_map string_bytes file ≡ first_of (codes "database") rows
   pub unread : o.database ≡ None
-  pub migrate : IsTrue o.migrate ↔ (name_of used ≡ Some (codes "migrate"))
+  pub migrate : Migrates used o.migrate
   pub history : option_map string_bytes o.history ≡ first_of (codes "history") rows

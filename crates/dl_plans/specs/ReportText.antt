@@ -17,7 +17,7 @@ use Rattle.dl_haxl.specs.declared.step_answers.StepAnswer.{StepAnswer}
 use Rattle.dl_terms.specs.declared.answer.Answer.{Answer}
 use Rattle.dl_terms.specs.declared.answer.Answer.TheVariants.{Value, Fault}
 use Rattle.dl_terms.specs.declared.answer.EvalFault.{EvalFault}
-use Rattle.dl_terms.specs.declared.answer.EvalFault.TheVariants.{Key as KeyFailed, Batch, NoField, NotAKey, NotAList, TooMany}
+use Rattle.dl_terms.specs.declared.answer.EvalFault.TheVariants.{Key as KeyFailed, Batch, NoField, NotAKey, NotAList, TooMany, NoItem}
 
 -- ---- answers
 
@@ -35,6 +35,7 @@ fault_text NoField = codes "NoField"
 fault_text NotAKey = codes "NotAKey"
 fault_text NotAList = codes "NotAList"
 fault_text TooMany = codes "TooMany"
+fault_text NoItem = codes "NoItem"
 
 abbrev pub answer_text : Answer → List ℕ
 answer_text (Value d) = codes "ok " ++ compact_text d

@@ -20,7 +20,7 @@ use Rattle.dl_plans.specs.JoinedTables.{joined}
 use Rattle.dl_plans.specs.ScriptText.{script_text}
 use Rattle.dl_plans.specs.ReportText.{report_text}
 use Rattle.dl_plans.specs.declared.fault.RunError.{RunError}
-use Rattle.dl_plans.specs.declared.fault.RunError.TheVariants.{Read, Refused, Run, Write, OutOfMemory, NotVersion1, NoHistory}
+use Rattle.dl_plans.specs.declared.fault.RunError.TheVariants.{Read, Refused, Run, Write, OutOfMemory, NotVersion1, NotVersion1Or2, NoHistory}
 use Rattle.dl_plans.specs.declared.settings.Options.{Options}
 
 -- ---- what is read
@@ -101,4 +101,5 @@ IsRefused options bytes (Run fault) = (file : PlanFile) × IsDocument options by
 IsRefused options bytes Write = Unit {0}
 IsRefused options bytes OutOfMemory = Unit {0}
 IsRefused options bytes NotVersion1 = ⊥
+IsRefused options bytes NotVersion1Or2 = ⊥
 IsRefused options bytes (NoHistory fault) = ⊥

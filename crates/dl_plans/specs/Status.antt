@@ -5,7 +5,7 @@ use Rattle.std.specs.declared.io.ErrorKind.TheVariants as io_kind
 use Rattle.clap.specs.declared.error.kind.ErrorKind.{ErrorKind}
 use Rattle.clap.specs.declared.error.kind.ErrorKind.TheVariants as kind
 use Rattle.dl_plans.specs.declared.fault.RunError.{RunError}
-use Rattle.dl_plans.specs.declared.fault.RunError.TheVariants.{Read, Refused, Run, Write, OutOfMemory, NotVersion1, NoHistory}
+use Rattle.dl_plans.specs.declared.fault.RunError.TheVariants.{Read, Refused, Run, Write, OutOfMemory, NotVersion1, NotVersion1Or2, NoHistory}
 
 -- it answered the document, or printed the help
 abbrev pub status_ran : ℕ
@@ -31,6 +31,7 @@ run_status (Run fault) = status_failed
 run_status Write = status_failed
 run_status OutOfMemory = status_failed
 run_status NotVersion1 = status_refused
+run_status NotVersion1Or2 = status_refused
 run_status (NoHistory fault) = status_refused
 
 -- the status of a command line that gives no options

@@ -64,6 +64,7 @@ fn push_fault(alloc: Global, out: &mut String, fault: &EvalFault) -> Result<(), 
         EvalFault::NotAKey => writeln!(out, "fault NotAKey"),
         EvalFault::NotAList => writeln!(out, "fault NotAList"),
         EvalFault::TooMany => writeln!(out, "fault TooMany"),
+        EvalFault::NoItem => writeln!(out, "fault NoItem"),
     }
 }
 

@@ -3,17 +3,19 @@
 ghost use Rattle.std.specs.Prelude.{◌≡◌, IfOk, IfSome, map, option_map, false, string_bytes};
 ghost use Rattle.clap.specs.Words.{app_of, rule_of, found_of, matches_of, rows_of, subcommand_of, subcommand_rows_of};
 ghost use Rattle.dl_plans.specs.Options.{plans_app, plans_words_app, file_words_app, answering_app, serving_app, have_one_name, AreApart, AreGiven};
-ghost use Rattle.dl_plans.specs.Options.{workers_rule, batches_rule, explain_rule, statistics_rule, picture_rule, trace_rule, database_rule, history_rule};
+ghost use Rattle.dl_plans.specs.Options.{Migrates, migrate_app, to_rule, workers_rule, batches_rule, explain_rule, statistics_rule, picture_rule, trace_rule, database_rule, history_rule};
 
 use crate::settings::Options;
 use clap::error::ErrorKind;
 use clap::{Arg, ArgAction, ArgMatches, Command, Error, value_parser};
+use dl_migration::Target;
 use std::alloc::{AllocError, Global};
 use std::convert::AsStr;
 
 /// The options in the words behind the program's name, `[--workers N] [--batches] [--explain] [--statistics]
-/// [--picture FILE] [--trace FILE] [--database FILE] [--history FILE] [migrate]`, and the file of the database. N is 1 to
-/// 16, and 3 if you don't give it. No option follows `migrate`. The options have no tables of a database yet.
+/// [--picture FILE] [--trace FILE] [--database FILE] [--history FILE] [migrate [--to N]]`, and the file of the database.
+/// The number of workers is 1 to 16, and 3 if you don't give it; that behind `migrate` is 2 or 3, and else 2. The options
+/// have no tables of a database yet.
 ///
 /// # Errors
 /// The help, if the words ask for it; why the words are wrong, with the usage; or that memory ran out.
@@ -61,7 +63,7 @@ fn have_one_name(file: &Option<String>, other: &Option<String>) -> bool
     }
 }
 
-/// What the words give by the command line, or `None` if the number of workers is out of range.
+/// What the words give by the command line, or `None` if a number is out of range.
 fn read<'a, S: AsStr>(
     alloc: Global,
     command: &mut Command<'a>,
@@ -78,7 +80,7 @@ fn read<'a, S: AsStr>(
     }
 }
 
-/// What the matches give, or `None` if the number of workers is out of range.
+/// What the matches give, or `None` if a number is out of range.
 fn given(
     alloc: Global,
     matches: &ArgMatches,
@@ -89,6 +91,10 @@ fn given(
         Some(workers) if (1..=16).contains(&workers) => workers,
         _ => return Ok(None),
     };
+    let migrate = match migration(matches) {
+        Some(migrate) => migrate,
+        None => return Ok(None),
+    };
     let database = copied(alloc, matches.get_str("database"))?;
     let options = Options {
         workers,
@@ -98,10 +104,24 @@ fn given(
         picture: copied(alloc, matches.get_str("picture"))?,
         trace: copied(alloc, matches.get_str("trace"))?,
         database: None,
-        migrate: matches.subcommand_matches("migrate").is_some(),
+        migrate,
         history: copied(alloc, matches.get_str("history"))?,
     };
     Ok(Some((options, database)))
+}
+
+/// The version in which to write a document, if the matches ask for that, or `None` if its number is out of range.
+fn migration(matches: &ArgMatches) -> Option<Option<Target>>
+    ensures { IfSome result (Migrates (subcommand_rows_of matches.now)) }
+{
+    match matches.subcommand_matches("migrate") {
+        None => Some(None),
+        Some(own) => match own.get_one::<u32>("to") {
+            Some(2) => Some(Some(Target::Second)),
+            Some(3) => Some(Some(Target::Third)),
+            _ => None,
+        },
+    }
 }
 
 /// A copy of a text, if there is one.
@@ -123,9 +143,9 @@ pub(crate) fn unreadable(alloc: Global) -> Error {
     }
 }
 
-/// The error for a number of workers that there can't be, with the usage in its text.
+/// The error for a number that is out of range, with the usage in its text.
 fn out_of_range(command: &mut Command<'_>) -> Error {
-    let message = "--workers takes a number from 1 to 16";
+    let message = "--workers takes a number from 1 to 16, and --to 2 or 3";
     refused(command, ErrorKind::ValueValidation, message)
 }
 
@@ -155,10 +175,33 @@ fn command<'a>(alloc: Global) -> Result<Command<'a>, AllocError>
 fn plans_words<'a>(alloc: Global) -> Result<Command<'a>, AllocError>
     ensures { IfOk result (λ c. app_of c ≡ plans_words_app) }
 {
-    let migrate = Command::new(alloc, "migrate")
-        .about("Writes a plan file of version 1 as one of version 2")
-        .override_usage("plans migrate");
+    let migrate = migrate_words(alloc)?;
     file_words(alloc)?.subcommand(migrate)
+}
+
+/// `migrate`, with its option.
+fn migrate_words<'a>(alloc: Global) -> Result<Command<'a>, AllocError>
+    ensures { IfOk result (λ c. app_of c ≡ migrate_app) }
+{
+    Command::new(alloc, "migrate")
+        .about(
+            "Writes a plan file of version 1 as one of version 2, or of either as one of version 3",
+        )
+        .override_usage("plans migrate [--to <N>]")
+        .arg(to(alloc))
+}
+
+/// `--to N`.
+fn to<'a>(alloc: Global) -> Arg<'a>
+    ensures rule { rule_of result ≡ to_rule }
+    ensures local { result.global ≡ false }
+{
+    Arg::new(alloc, "to")
+        .long("to")
+        .value_name("N")
+        .value_parser(value_parser!(u32).range(2..=3))
+        .default_value("2")
+        .help("The version to write, 2 or 3")
 }
 
 /// The options for answering a document.

@@ -10,9 +10,6 @@ use serde_json::Value;
 use std::alloc::{AllocError, Global};
 use std::fmt::Write;
 
-/// The most items of a list of ids.
-const MOST_ITEMS: usize = 1_024;
-
 /// Appends the line of an explanation: the place in the step to which the path leads, what the part there met, and what
 /// it needs. Without an origin the place is that of the whole term, and nothing follows.
 pub(crate) fn push_explanation(
@@ -22,20 +19,51 @@ pub(crate) fn push_explanation(
 ) -> Result<(), AllocError> {
     write!(out, "plan {} step {}: eval", explained.plan, explained.step)?;
     if let Some(origin) = explained.origin {
-        push_path(out, origin.path.as_slice())?;
+        push_path(alloc, out, origin.path.as_slice())?;
         push_form(alloc, out, origin.part)?;
         push_met(alloc, out, origin)?;
-        write!(out, ", and needs {}", need_of(&origin.fault))?;
+        write!(out, ", and needs {}", need_of(origin))?;
     }
     out.push_str("\n")
 }
 
 /// Appends the steps of a path, the last of which comes first.
-fn push_path(out: &mut String, path: &[PathStep<'_>]) -> Result<(), AllocError> {
+fn push_path(alloc: Global, out: &mut String, path: &[PathStep<'_>]) -> Result<(), AllocError> {
     for step in path.iter().rev() {
-        write!(out, ".{}[{}]", form_of(step.term), step.part)?;
+        write!(out, ".{}", form_of(step.term))?;
+        push_part(alloc, out, *step)?;
     }
     Ok(())
+}
+
+/// Appends which part a step leads into: its number, the name of a member, or a body with the place of its item.
+fn push_part(alloc: Global, out: &mut String, step: PathStep<'_>) -> Result<(), AllocError> {
+    match step.term {
+        Term::Over { .. } if step.part > 0 => write!(out, "[1] at [{}]", step.part - 1),
+        Term::Object { names, .. } => match names.get(step.part) {
+            Some(name) => push_member(alloc, out, name.as_str()),
+            None => Ok(()),
+        },
+        _ => write!(out, "[{}]", step.part),
+    }
+}
+
+/// Appends the name of a member, in quotation marks unless it is a plain word.
+fn push_member(alloc: Global, out: &mut String, name: &str) -> Result<(), AllocError> {
+    if is_word(name) {
+        out.push_str(".")?;
+        return push_front(alloc, out, &name);
+    }
+    push_quoted(alloc, out, "[", name)?;
+    out.push_str("]")
+}
+
+/// Whether a name has nothing but letters and digits of ASCII and underscores, and one of them at least.
+fn is_word(name: &str) -> bool {
+    !name.is_empty()
+        && name
+            .bytes()
+            .all(|byte| byte == b'_' || byte.is_ascii_alphanumeric())
 }
 
 /// The name of a term's form.
@@ -47,6 +75,9 @@ fn form_of(term: &Term) -> &'static str {
         Term::Follow { .. } => "follow",
         Term::Each { .. } => "each",
         Term::All(_) => "all",
+        Term::Over { .. } => "over",
+        Term::Item => "item",
+        Term::Object { .. } => "object",
     }
 }
 
@@ -57,7 +88,7 @@ fn push_form(alloc: Global, out: &mut String, part: &Term) -> Result<(), AllocEr
         Term::Pick { field, .. } | Term::Follow { field, .. } | Term::Each { field, .. } => {
             push_quoted(alloc, out, " ", field.as_str())
         }
-        Term::Value(_) | Term::Load(_) | Term::All(_) => Ok(()),
+        _ => Ok(()),
     }
 }
 
@@ -73,6 +104,7 @@ fn push_met(alloc: Global, out: &mut String, origin: &Origin<'_>) -> Result<(), 
             push_batch_fault(alloc, out, fault)?;
             push_key(alloc, out, key)?;
         }
+        EvalFault::TooMany => write!(out, "{} items", items_met(alloc, &origin.met)?)?,
         _ => push_value(alloc, out, &origin.met)?,
     }
     if let Met::Item(place, _) = &origin.met {
@@ -81,15 +113,30 @@ fn push_met(alloc: Global, out: &mut String, origin: &Origin<'_>) -> Result<(), 
     Ok(())
 }
 
-/// Appends the value that a part met, or of a list of too many how many it has.
+/// Appends the value that a part met.
 fn push_value(alloc: Global, out: &mut String, met: &Met) -> Result<(), AllocError> {
     match met {
         Met::Outcome => Ok(()),
+        Met::Nothing => out.push_str("nothing"),
         Met::Whole(value) => push_front(alloc, out, value),
-        Met::Field(Value::Array(items)) if items.len() > MOST_ITEMS => {
-            write!(out, "{} items", items.len())
-        }
         Met::Field(value) | Met::Item(_, value) => push_front(alloc, out, value),
+    }
+}
+
+/// How many items the list has that a part met.
+fn items_met(alloc: Global, met: &Met) -> Result<usize, AllocError> {
+    Ok(match met {
+        Met::Whole(value) => items_of(value.to_json(alloc)?.value()),
+        Met::Field(value) | Met::Item(_, value) => items_of(value),
+        Met::Outcome | Met::Nothing => 0,
+    })
+}
+
+/// How many items a list has.
+fn items_of(value: &Value) -> usize {
+    match value.as_array() {
+        Some(items) => items.len(),
+        None => 0,
     }
 }
 
@@ -112,14 +159,16 @@ fn push_batch_fault(alloc: Global, out: &mut String, fault: &BatchFault) -> Resu
     out.push_str(")")
 }
 
-/// What a part needs, in place of what it met.
-fn need_of(fault: &EvalFault) -> &'static str {
-    match fault {
-        EvalFault::Key { .. } => "a row",
-        EvalFault::Batch { .. } => "a batch that is answered",
-        EvalFault::NoField => "an object with this field",
-        EvalFault::NotAKey => "an id, a text of 1 to 256 bytes",
-        EvalFault::NotAList => "a list of ids",
-        EvalFault::TooMany => "at most 1024",
+/// What the part of an origin needs, in place of what it met.
+fn need_of(origin: &Origin<'_>) -> &'static str {
+    match (&origin.fault, origin.part) {
+        (EvalFault::Key { .. }, _) => "a row",
+        (EvalFault::Batch { .. }, _) => "a batch that is answered",
+        (EvalFault::NoField, _) => "an object with this field",
+        (EvalFault::NotAKey, _) => "an id, a text of 1 to 256 bytes",
+        (EvalFault::NotAList, Term::Over { .. }) => "a list",
+        (EvalFault::NotAList, _) => "a list of ids",
+        (EvalFault::TooMany, _) => "at most 1024",
+        (EvalFault::NoItem, _) => "an over around it",
     }
 }

@@ -119,6 +119,7 @@ fn is_same_fault(one: &EvalFault, other: &EvalFault) -> bool
         (EvalFault::NotAKey, EvalFault::NotAKey) => true,
         (EvalFault::NotAList, EvalFault::NotAList) => true,
         (EvalFault::TooMany, EvalFault::TooMany) => true,
+        (EvalFault::NoItem, EvalFault::NoItem) => true,
         _ => false,
     }
 }

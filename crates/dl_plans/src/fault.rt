@@ -23,9 +23,12 @@ pub enum RunError {
     /// Memory ran out. The run wrote nothing.
     #[error("failed: memory")]
     OutOfMemory,
-    /// There is nothing to migrate: a script, or a plan file of version 2. The run wrote nothing.
+    /// There is nothing to migrate to version 2: a script, or a plan file of version 2 or 3. The run wrote nothing.
     #[error("refused: not version 1")]
     NotVersion1,
+    /// There is nothing to migrate to version 3: a script, or a plan file of version 3. The run wrote nothing.
+    #[error("refused: not version 1 or 2")]
+    NotVersion1Or2,
     /// The file has no history. The run wrote nothing.
     #[error("refused: {0}")]
     NoHistory(HistoryFault),

@@ -45,7 +45,7 @@ fn database<R: Eprint + AllocGlobal + Files>(
     ensures { IfOk result (λ tables. IfSome tables IsReadFromSome) }
 {
     match file {
-        Some(file) if !options.migrate => Ok(Some(tables(rt, hashing, file.as_str())?)),
+        Some(file) if options.migrate.is_none() => Ok(Some(tables(rt, hashing, file.as_str())?)),
         _ => Ok(None),
     }
 }

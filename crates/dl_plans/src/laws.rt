@@ -3,7 +3,7 @@
 
 ghost use Rattle.std.specs.Prelude.{◌≡◌};
 ghost use Rattle.dl_plans.specs.Options as command;
-ghost use Rattle.dl_migration.specs.SecondVersion.{MigratedIsTheSame, MigratedReadsTheSame};
+ghost use Rattle.dl_migration.specs.LaterVersion.{MigratedIsTheSame, MigratedReadsTheSame};
 ghost use Rattle.dl_plans.specs.MigratedAnswers.{MigratedAnswersAreEqual};
 ghost use Rattle.dl_scope.specs.Faults as scope;
 
@@ -12,19 +12,20 @@ pub fn command_lines_and_serve_agree()
     ensures { command.most_workers ≡ scope.most_workers }
 {}
 
-/// If a tree reads as a plan file of version 1, then, migrated, it reads as one of version 2 with the same tables,
-/// plans and limits, and no table has a limit of its own.
+/// If a tree reads as a plan file of an earlier version, then, migrated, it reads as one of the later version with the
+/// same tables, plans and limits. A table of version 1 then has no limit of its own.
 pub fn migrated_is_the_same()
     ensures { MigratedIsTheSame }
 {}
 
-/// The text of a plan file of version 1, migrated, reads as the same file in version 2, unless it is too large to read.
+/// The text of a plan file of an earlier version, migrated, reads as the same file in the later version, unless it is
+/// too large to read.
 pub fn migrated_reads_the_same()
     ensures { MigratedReadsTheSame }
 {}
 
-/// If a plan file of version 1 primes no key, it and the migrated file have the same answers in all reports in which no
-/// batch failed, for all numbers of workers, over the same database or over none.
+/// If a plan file of an earlier version primes no key, it and the migrated file have the same answers in all reports in
+/// which no batch failed, for all numbers of workers, over the same database or over none.
 pub fn migrated_answers_are_equal()
     ensures { MigratedAnswersAreEqual }
 {

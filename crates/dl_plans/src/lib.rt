@@ -30,7 +30,7 @@ mod whole_file;
 pub use command::options;
 pub use dl_desk::DeskCall;
 pub use dl_documents::{Calls, Input, MOST_BYTES, PlanFault, PlanFile, Script, read_input};
-pub use dl_migration::{MigrateFault, migrate};
+pub use dl_migration::{MigrateFault, Target, migrate};
 pub use document::run;
 pub use fault::RunError;
 pub use history::run_history;

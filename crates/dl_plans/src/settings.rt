@@ -2,6 +2,7 @@
 
 ghost use Rattle.std.specs.Prelude.{◌≡◌};
 
+use dl_migration::Target;
 use dl_source::Tables;
 
 /// What the command line sets.
@@ -22,8 +23,8 @@ pub struct Options {
     /// The tables of the database, if the command line names one. They answer a plan file too: a key whose table it
     /// doesn't have.
     pub database: Option<Tables>,
-    /// Whether to write a plan file of version 1 as version 2, and not to answer it.
-    pub migrate: bool,
+    /// The version in which to write a plan file of an earlier one, and not to answer it, if the command line asks for that.
+    pub migrate: Option<Target>,
     /// The file of a history, if the command line names one: to be drawn, and no document answered.
     pub history: Option<String>,
 }

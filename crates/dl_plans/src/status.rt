@@ -23,12 +23,13 @@ pub(crate) const FAILED: u8 = 3;
 
 impl RunError {
     /// The status that the program ends with after such a run: 1 if the document or the file of a history is refused, or
-    /// the document must be of version 1 to migrate and isn't; else 3.
+    /// the document must be of an earlier version to migrate and isn't; else 3.
     pub fn status(&self) -> u8
         ensures { result ≡ run_status self.now }
     {
         match self {
-            RunError::Refused(_) | RunError::NotVersion1 | RunError::NoHistory(_) => REFUSED,
+            RunError::Refused(_) | RunError::NotVersion1 | RunError::NotVersion1Or2 => REFUSED,
+            RunError::NoHistory(_) => REFUSED,
             RunError::Read | RunError::Run(_) | RunError::Write | RunError::OutOfMemory => FAILED,
         }
     }

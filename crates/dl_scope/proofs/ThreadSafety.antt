@@ -35,7 +35,7 @@ use Rattle.dl_haxl.specs.contracts.step_answers.StepAnswer as StepAnswer
 use Rattle.dl_haxl.specs.contracts.step_answers.StepAnswers as StepAnswers
 
 Term-field-send : IsSend Term.the_field.row
-Term-field-send = search (terms_cross, Json-send, key.the_send, owners_cross, maps_cross, sendable) depth 40
+Term-field-send = search (terms_cross, Json-send, key.the_send, owners_cross, maps_cross, sendable) depth 40 fits 20000
 
 Step-send : IsSend Step.the_row
 Step-send = search (Term-field-send, Outcome-field-send, key.the_send, owners_cross, sendable) depth 40 fits 20000

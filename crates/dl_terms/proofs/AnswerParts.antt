@@ -1,14 +1,17 @@
 -- What stands in a value: the members of a row, and the values of a list, one by one.
-use Rattle.std.proofs.Common.{◌≡◌, ◌∙◌, ap, sym, append_assoc, ℕ, ◌+◌, ◌*◌, ◌<◌, ◌≤◌, Bool, true, false, List, [], ◌∷◌, ◌++◌, map, take, drop, length, get_or}
-use Rattle.std.proofs.Common.{Option, Some, None, Bor, arith}
+use Rattle.std.proofs.Common.{◌≡◌, ◌∙◌, ap, sym, subst, refl, slice_get, append_assoc, ℕ, zero, suc, ◌+◌, ◌*◌, ◌<◌, ◌≤◌, Bool, true, false, List, [], ◌∷◌, ◌++◌, map, take, drop, length, get_or}
+use Rattle.std.proofs.Common.{Option, Some, None, Bor, arith, length-append, ◌||◌, Ordering, Less, Equal, Greater}
 use Rattle.std.specs.Prelude.{IfSome, Vec, max, option_map}
 use Rattle.std.specs.declared.alloc.Global.{Global}
 use denote.Param.Weighed.{most, w_this}
 use Rattle.std.proofs.lemmas.List.{map-append, drop_more, take_more}
-use Rattle.serde_json.specs.Data.{Data, depth}
-use Rattle.serde_json.specs.Find.{get}
-use Rattle.serde_json.specs.View.{view, items_of}
-use Rattle.serde_json.specs.Written.{has_float, comma_if, compact_text, items_text}
+use Rattle.std.specs.Ordering.{nat_cmp, match_ordering}
+use Rattle.std.specs.Cmp.Lexicographic.{slice_cmp}
+use Rattle.std.proofs.lemmas.Bool.{or_parts}
+use Rattle.serde_json.specs.Data.{Data, null, boolean, number, string, array, object, Items, no_items, item, Members, no_members, member, put, depth}
+use Rattle.serde_json.specs.Find.{get, as_array}
+use Rattle.serde_json.specs.View.{view, items_of, items_view}
+use Rattle.serde_json.specs.Written.{has_float, items_have_float, members_have_float, comma_if, compact_text, items_text}
 use Rattle.serde_json.specs.declared.value.Value.{Value}
 use Rattle.dl_terms.specs.declared.answer_value.Shape.{Shape}
 use Rattle.dl_terms.specs.declared.answer_value.Shape.TheVariants.{List as ListOf}
@@ -16,6 +19,8 @@ use Rattle.dl_terms.specs.declared.answer_value.AnswerValue.{AnswerValue}
 use Rattle.dl_terms.specs.declared.answer_value.AnswerValue.TheDeep.{deep-Shape, size-AnswerValue}
 use Rattle.dl_terms.specs.AnswerDepth.{parts_below}
 use Rattle.dl_terms.specs.AnswerValue.{tree_of}
+use Rattle.dl_terms.specs.Joined.{members_with, put_named}
+use Rattle.dl_terms.proofs.Options.{none_absurd, some_same}
 use Rattle.dl_terms.proofs.WholeNumbers.{field_whole}
 
 -- a member of what has no float has none
@@ -65,3 +70,65 @@ module _ (xs : List Data) (i : ℕ) (x : Data) (low : i < length xs) (is : x ≡
       ap (map view) pushed
       ∙ (map-append view vs (v ∷ [])
       ∙ (ap (λ ds. ds ++ view v ∷ []) so_far ∙ (ap (λ d. take i xs ++ d ∷ []) (copied ∙ is) ∙ sym (take_more xs i x low))))
+
+-- ---- the items of a row
+
+array_whole : (d : Data) (ds : Items) → as_array d ≡ Some ds → has_float d ≡ false → items_have_float ds ≡ false
+array_whole null ds e whole = absurd (none_absurd ds e)
+array_whole (boolean b) ds e whole = absurd (none_absurd ds e)
+array_whole (number n) ds e whole = absurd (none_absurd ds e)
+array_whole (string s) ds e whole = absurd (none_absurd ds e)
+array_whole (array es) ds e whole = ap items_have_float (sym (some_same es ds e)) ∙ whole
+array_whole (object ms) ds e whole = absurd (none_absurd ds e)
+
+pub row_items_whole : (d : Data) (vs : List Value) → Some (items_view vs) ≡ as_array d → has_float d ≡ false → items_have_float (items_view vs) ≡ false
+row_items_whole d vs e whole = array_whole d (items_view vs) (sym e) whole
+
+pub item_whole : (vs : List Value) (i : ℕ) (v : Value) → i < length vs → v ≡ get_or vs i v → items_have_float (items_view vs) ≡ false → has_float (view v) ≡ false
+item_whole [] i v low is whole = absurd (omega arith)
+item_whole (w ∷ ws) zero v low is whole = ap (λ u. has_float (view u)) is ∙ (or_parts (has_float (view w)) (items_have_float (items_view ws)) whole).0
+item_whole (w ∷ ws) (suc i) v low is whole =
+    item_whole ws i v (omega arith) is (or_parts (has_float (view w)) (items_have_float (items_view ws)) whole).1
+
+-- ---- members, from the last
+
+by_place : (names : List (List ℕ)) (n : ℕ) (d : Data) (ds : Items)
+    → put_named (slice_get names n) d (members_with (drop (suc n) names) ds) ≡ members_with (drop n names) (item d ds)
+by_place [] zero d ds = refl
+by_place [] (suc n) d ds = refl
+by_place (x ∷ xs) zero d ds = refl
+by_place (x ∷ xs) (suc n) d ds = by_place xs n d ds
+
+pub member_next : (names : List (List ℕ)) (all vs more done : List Data) (v : Data) (before after : Members) → all ≡ vs ++ done → vs ≡ more ++ v ∷ []
+    → before ≡ members_with (drop (length vs) names) (items_of done) → after ≡ put_named (slice_get names (length more)) v before
+    → (all ≡ more ++ v ∷ done) × (after ≡ members_with (drop (length more) names) (items_of (v ∷ done)))
+member_next names all vs more done v before after whole last was put_there =
+    let long : length vs ≡ length more + 1 = ap length last ∙ length-append more (v ∷ []) in
+    let next : length vs ≡ suc (length more) = omega arith in (
+      whole ∙ (ap (λ l. l ++ done) last ∙ append_assoc more (v ∷ []) done),
+      put_there ∙ (ap (put_named (slice_get names (length more)) v) (was ∙ ap (λ k. members_with (drop k names) (items_of done)) next)
+          ∙ by_place names (length more) v (items_of done)),
+    )
+
+-- no values make no members
+pub none_named : (names : List (List ℕ)) → no_members ≡ members_with names no_items
+none_named [] = refl
+none_named (n ∷ names) = refl
+
+or_false : (a b : Bool) → a ≡ false → b ≡ false → (a || b) ≡ false
+or_false a b e f = ap (λ x. x || b) e ∙ f
+
+put_step : (o : Ordering) (a b c : Members) → members_have_float a ≡ false → members_have_float b ≡ false → members_have_float c ≡ false
+    → members_have_float (match_ordering o a b c) ≡ false
+put_step Less a b c x y z = x
+put_step Equal a b c x y z = y
+put_step Greater a b c x y z = z
+
+-- a member without a float among members without one
+pub put_whole : (k : List ℕ) (d : Data) (ms : Members) → has_float d ≡ false → members_have_float ms ≡ false → members_have_float (put k d ms) ≡ false
+put_whole k d no_members one rest = or_false (has_float d) false one refl
+put_whole k d (member l e ms) one rest =
+    let parts = or_parts (has_float e) (members_have_float ms) rest in
+    put_step (slice_cmp nat_cmp k l) (member k d (member l e ms)) (member l d ms) (member l e (put k d ms))
+    (or_false (has_float d) (members_have_float (member l e ms)) one rest) (or_false (has_float d) (members_have_float ms) one parts.1)
+    (or_false (has_float e) (members_have_float (put k d ms)) parts.0 (put_whole k d ms one parts.1))

@@ -1,10 +1,12 @@
 -- A term has an answer exactly where none of its loads waits.
 use Rattle.std.proofs.Common.{◌≡◌, ◌≢◌, ap, sym, subst, refl, List, [], ◌∷◌, ◌++◌, Option, Some, None}
 use Rattle.std.specs.Option.{option_map, option_and_then}
+use Rattle.serde_json.specs.Data.{Data, Items, no_items, item}
 use Rattle.dl_values.specs.Key.{Key}
 use Rattle.dl_values.specs.declared.outcome.Outcome.{Outcome}
 use Rattle.dl_terms.specs.declared.answer.Answer.{Answer}
-use Rattle.dl_terms.specs.Tree.{Tree, ended, load, pick, follow, each, all, Trees, no_trees, tree}
+use Rattle.dl_terms.specs.Tree.{Tree, ended, load, pick, follow, each, all, over, the_item, named, Trees, no_trees, tree}
+use Rattle.dl_terms.specs.TermAnswers.{Listed, listed, copy_answers, copies_answer, copy_waits, copies_wait, assembled, answer_at, answers_at, waits_at, all_wait_at}
 use Rattle.dl_terms.specs.TermAnswers.{loaded, picked, gathered, both, load_waits_for, waits_after, firsts, Target, target_in, target_answer, target_answers}
 use Rattle.dl_terms.specs.TermAnswers.{target_waits, each_target_waits, Targets, targets_in, targets_answer, targets_waits, answer, answers, waits, all_wait}
 
@@ -32,6 +34,15 @@ both_settles : {A : Type 0} (x : Option A) (xs : Option (List A)) (ks ls : List 
 both_settles None xs ks ls s rest = some_append ks ls s
 both_settles (Some a) xs ks ls s rest = subst (λ l. Settles (option_map (λ r. a ∷ r) xs) (l ++ ls)) (sym s) (map_settles (λ r. a ∷ r) xs ls rest)
 
+module _ (f : Data → Option Answer) (g : Data → List Key) (settle : (d : Data) → Settles (f d) (g d)) where
+  each_copy_settles : (ds : Items) → Settles (copy_answers f ds) (copy_waits g ds)
+  each_copy_settles no_items = refl
+  each_copy_settles (item d ds) = both_settles (f d) (copy_answers f ds) (g d) (copy_waits g ds) (settle d) (each_copy_settles ds)
+
+  copies_settle : (x : Listed) → Settles (copies_answer f x) (copies_wait g x)
+  copies_settle (Listed.items ds) = map_settles gathered (copy_answers f ds) (copy_waits g ds) (each_copy_settles ds)
+  copies_settle (Listed.none fault) = refl
+
 module _ (known : Key → Option Outcome) where
   load_settles : (k : Key) (o : Option Outcome) → Settles (option_map (loaded k) o) (load_waits_for k o)
   load_settles k None = λ e. let bad : ◌≡◌ {A = List Key} (k ∷ []) [] = e in cc
@@ -57,25 +68,39 @@ module _ (known : Key → Option Outcome) where
   after_some x next a e = ap (λ o. waits_after o next) e
 
   mutual
-    pub settles : (t : Tree) → Settles (answer known t) (waits known t)
-    settles (ended a) = refl
-    settles (load k) = load_settles k (known k)
-    settles (pick t field) = map_settles (picked field) (answer known t) (waits known t) (settles t)
-    settles (follow t field table) =
+    pub settles_at : (i : Option Data) (t : Tree) → Settles (answer_at known i t) (waits_at known i t)
+    settles_at i (ended a) = refl
+    settles_at i (load k) = load_settles k (known k)
+    settles_at i (pick t field) = map_settles (picked field) (answer_at known i t) (waits_at known i t) (settles_at i t)
+    settles_at i (follow t field table) =
         let next = λ (a : Answer). target_waits known (target_in table (picked field a)) in
-        and_then_settles (λ a. target_answer known (target_in table (picked field a))) next (answer known t) (waits known t) (settles t)
+        and_then_settles (λ a. target_answer known (target_in table (picked field a))) next (answer_at known i t) (waits_at known i t) (settles_at i t)
         (λ a. target_settles (target_in table (picked field a)))
-        (waits_after (answer known t) next) (after_none (answer known t) next) (after_some (answer known t) next)
-    settles (each t field table) =
+        (waits_after (answer_at known i t) next) (after_none (answer_at known i t) next) (after_some (answer_at known i t) next)
+    settles_at i (each t field table) =
         let next = λ (a : Answer). targets_waits known (targets_in table (picked field a)) in
-        and_then_settles (λ a. targets_answer known (targets_in table (picked field a))) next (answer known t) (waits known t) (settles t)
+        and_then_settles (λ a. targets_answer known (targets_in table (picked field a))) next (answer_at known i t) (waits_at known i t) (settles_at i t)
         (λ a. targets_settle (targets_in table (picked field a)))
-        (waits_after (answer known t) next) (after_none (answer known t) next) (after_some (answer known t) next)
-    settles (all ts) = map_settles gathered (answers known ts) (all_wait known ts) (all_settle ts)
+        (waits_after (answer_at known i t) next) (after_none (answer_at known i t) next) (after_some (answer_at known i t) next)
+    settles_at i (all ts) = map_settles gathered (answers_at known i ts) (all_wait_at known i ts) (all_settle_at i ts)
+    settles_at i (over t body) =
+        let next = λ (a : Answer). copies_wait (λ d. waits_at known (Some d) body) (listed a) in
+        and_then_settles (λ a. copies_answer (λ d. answer_at known (Some d) body) (listed a)) next (answer_at known i t) (waits_at known i t) (settles_at i t)
+        (λ a. copies_settle (λ d. answer_at known (Some d) body) (λ d. waits_at known (Some d) body) (λ d. settles_at (Some d) body) (listed a))
+        (waits_after (answer_at known i t) next) (after_none (answer_at known i t) next) (after_some (answer_at known i t) next)
+    settles_at i the_item = refl
+    settles_at i (named names ts) = map_settles (assembled names) (answers_at known i ts) (all_wait_at known i ts) (all_settle_at i ts)
 
-    pub all_settle : (ts : Trees) → Settles (answers known ts) (all_wait known ts)
-    all_settle no_trees = refl
-    all_settle (tree t ts) = both_settles (answer known t) (answers known ts) (waits known t) (all_wait known ts) (settles t) (all_settle ts)
+    pub all_settle_at : (i : Option Data) (ts : Trees) → Settles (answers_at known i ts) (all_wait_at known i ts)
+    all_settle_at i no_trees = refl
+    all_settle_at i (tree t ts) = both_settles (answer_at known i t) (answers_at known i ts) (waits_at known i t) (all_wait_at known i ts)
+        (settles_at i t) (all_settle_at i ts)
+
+  pub settles : (t : Tree) → Settles (answer known t) (waits known t)
+  settles t = settles_at None t
+
+  pub all_settle : (ts : Trees) → Settles (answers known ts) (all_wait known ts)
+  all_settle ts = all_settle_at None ts
 
 firsts_none : (ks : List Key) → firsts ks ≡ [] → ks ≡ []
 firsts_none [] e = refl

@@ -3,11 +3,14 @@ pub mod AnswersStay
 pub mod AnswersWithoutWaits
 mod RuleAnswers
 mod DepthBound
+pub mod Substitution
+mod WorkedExamples
 mod Views
 mod Frames
-mod TermViews
+pub mod TermViews
 pub mod AskedKeys
 pub mod Reductions
+pub mod Bodies
 mod WholeNumbers
 mod PartAnswers
 mod AnswerParts

@@ -19,13 +19,13 @@ use Rattle.dl_terms.specs.declared.answer.EvalFault.{EvalFault}
 use Rattle.dl_terms.specs.declared.answer.EvalFault.TheVariants as why
 use Rattle.dl_terms.specs.declared.node.Frame.{Frame}
 use Rattle.dl_terms.specs.declared.node.Node.{Node}
-use Rattle.dl_terms.specs.Tree.{Name, Tree, ended, load, pick, follow, each, all, Trees, no_trees, tree}
-use Rattle.dl_terms.specs.TermAnswers.{loaded, gathered, both, load_waits_for, Target, value_target, item_targets, target_answer}
+use Rattle.dl_terms.specs.Tree.{Name, Tree, ended, load, pick, follow, each, all, over, the_item, named, Trees, no_trees, tree}
+use Rattle.dl_terms.specs.TermAnswers.{Joint, listing, naming, joined, loaded, both, load_waits_for, Target, value_target, item_targets, target_answer}
 use Rattle.dl_terms.specs.TermAnswers.{target_answers, target_waits, each_target_waits, Targets, few, list_targets, targets_answer, targets_waits}
 use Rattle.dl_terms.specs.TermAnswers.{answer, answers, waits, all_wait, most_items}
-use Rattle.dl_terms.specs.Node.{framed, node_view, nodes_view, result_of, results_of}
+use Rattle.dl_terms.specs.Node.{framed, joined_tree, node_view, nodes_view, result_of, results_of}
 use Rattle.dl_terms.specs.Reduction.{Stands, Reduces}
-use Rattle.dl_terms.specs.Inside.Exploration.{Becomes, StandAll, ReduceAll, LoadsTarget, LoadsEach, LoadsTargets, GathersOn}
+use Rattle.dl_terms.specs.Inside.Exploration.{Becomes, StandAll, ReduceAll, LoadsTarget, LoadsEach, LoadsTargets, JoinsOn}
 use Rattle.dl_terms.proofs.Options.{none_absurd, some_same, from_both}
 
 pub result_is : (v : Tree) (a : Answer) → result_of v ≡ Some a → v ≡ ended a
@@ -35,6 +35,9 @@ result_is (pick t field) a e = absurd (none_absurd a e)
 result_is (follow t field table) a e = absurd (none_absurd a e)
 result_is (each t field table) a e = absurd (none_absurd a e)
 result_is (all ts) a e = absurd (none_absurd a e)
+result_is (over t body) a e = absurd (none_absurd a e)
+result_is the_item a e = absurd (none_absurd a e)
+result_is (named names ts) a e = absurd (none_absurd a e)
 
 -- trees that have all ended answer so, and wait for nothing
 pub results_answer : (vs : Trees) (ls : List Answer) → results_of vs ≡ Some ls → (q : Key → Option Outcome) → (answers q vs ≡ Some ls) × (all_wait q vs ≡ [])
@@ -47,6 +50,20 @@ results_answer (tree t ts) ls e q =
       ap (λ u. waits q u ++ all_wait q ts) is
           ∙ rest.1,
     )
+
+-- ---- trees joined to one
+
+joined_answer : (j : Joint) (q : Key → Option Outcome) (vs : Trees) → answer q (joined_tree j vs) ≡ option_map (joined j) (answers q vs)
+joined_answer listing q vs = refl
+joined_answer (naming names) q vs = refl
+
+joined_waits : (j : Joint) (q : Key → Option Outcome) (vs : Trees) → waits q (joined_tree j vs) ≡ all_wait q vs
+joined_waits listing q vs = refl
+joined_waits (naming names) q vs = refl
+
+joined_open : (j : Joint) (vs : Trees) → result_of (joined_tree j vs) ≡ None
+joined_open listing vs = refl
+joined_open (naming names) vs = refl
 
 module _ (p : Key → Option Outcome) where
   pub load_known : (k : Key) (o : Outcome) → p k ≡ Some o → (u : Tree) → u ≡ ended (loaded k o) → LoadsTarget p (Target.key k) u
@@ -65,23 +82,32 @@ module _ (p : Key → Option Outcome) where
 
   -- ---- several together
 
-  gather_on : (say : (Key → Option Outcome) → Option (List Answer)) (lack : (Key → Option Outcome)
+  join_on : (j : Joint) (say : (Key → Option Outcome) → Option (List Answer)) (lack : (Key → Option Outcome)
       → List Key) (vs : Trees) (u : Tree) (r : Option (List Answer)) → results_of vs ≡ r
-      → StandAll p say lack vs → MatchOption r (u ≡ all vs) (λ ls. u ≡ ended (gathered ls)) → Stands p (λ q. option_map gathered (say q)) lack u
-  gather_on say lack vs u None e s is = record {
-    meaning = λ q more. ap (answer q) is ∙ ap (option_map gathered) (s.meaning q more);
-    waiting = λ q more. ap (waits q) is ∙ s.waiting q more;
-    ending = ap result_of is ∙ ap (option_map gathered) (sym e ∙ s.ending);
+      → StandAll p say lack vs → MatchOption r (u ≡ joined_tree j vs) (λ ls. u ≡ ended (joined j ls)) → Stands p (λ q. option_map (joined j) (say q)) lack u
+  join_on j say lack vs u None e s is = record {
+    meaning = λ q more. ap (answer q) is ∙ (joined_answer j q vs ∙ ap (option_map (joined j)) (s.meaning q more));
+    waiting = λ q more. ap (waits q) is ∙ (joined_waits j q vs ∙ s.waiting q more);
+    ending = ap result_of is ∙ (joined_open j vs ∙ ap (option_map (joined j)) (sym e ∙ s.ending));
   }
-  gather_on say lack vs u (Some ls) e s is = record {
-    meaning = λ q more. ap (answer q) is ∙ ap (option_map gathered) (sym (results_answer vs ls e q).0 ∙ s.meaning q more);
+  join_on j say lack vs u (Some ls) e s is = record {
+    meaning = λ q more. ap (answer q) is ∙ ap (option_map (joined j)) (sym (results_answer vs ls e q).0 ∙ s.meaning q more);
     waiting = λ q more. ap (waits q) is ∙ (sym (results_answer vs ls e q).1 ∙ s.waiting q more);
-    ending = ap result_of is ∙ ap (option_map gathered) (sym e ∙ s.ending);
+    ending = ap result_of is ∙ ap (option_map (joined j)) (sym e ∙ s.ending);
   }
 
-  pub gathers_on : (say : (Key → Option Outcome) → Option (List Answer)) (lack : (Key → Option Outcome) → List Key) (vs : Trees) (u : Tree)
-      → StandAll p say lack vs → GathersOn vs u → Stands p (λ q. option_map gathered (say q)) lack u
-  gathers_on say lack vs u s on = gather_on say lack vs u (results_of vs) refl s on
+  pub joins_on : (j : Joint) (say : (Key → Option Outcome) → Option (List Answer)) (lack : (Key → Option Outcome) → List Key) (vs : Trees) (u : Tree)
+      → StandAll p say lack vs → JoinsOn j vs u → Stands p (λ q. option_map (joined j) (say q)) lack u
+  joins_on j say lack vs u s on = join_on j say lack vs u (results_of vs) refl s on
+
+  -- and what they wait for
+  pub parts_want : (j : Joint) (ts : Trees) (ks : List Key) → insert_all key_eq ks (all_wait p ts) ≡ insert_all key_eq ks (waits p (joined_tree j ts))
+  parts_want j ts ks = ap (insert_all key_eq ks) (sym (joined_waits j p ts))
+
+  -- parts that a round has explored, joined
+  pub parts_reduce : (j : Joint) (ts vs : Trees) (u : Tree) → ReduceAll p ts vs → JoinsOn j vs u → Reduces p (joined_tree j ts) u
+  parts_reduce listing ts vs u s on = joins_on listing (λ q. answers q ts) (λ q. all_wait q ts) vs u s on
+  parts_reduce (naming names) ts vs u s on = joins_on (naming names) (λ q. answers q ts) (λ q. all_wait q ts) vs u s on
 
   -- ---- a chain that a round has explored in place
 
@@ -92,7 +118,7 @@ module _ (p : Key → Option Outcome) where
       subst (λ v. IfOk r (Becomes p (node_view node) v)) (sym is)
       (subst (λ t. IfOk r (Becomes p t (framed gs (node_view left)))) (ap (λ n. framed fs (node_view n)) same ∙ sym e) explored)
 
-  stand_more : (says : (Key → Option Outcome) → Option Answer) (lacks : (Key → Option Outcome) → List Key) (say : (Key → Option Outcome)
+  pub stand_more : (says : (Key → Option Outcome) → Option Answer) (lacks : (Key → Option Outcome) → List Key) (say : (Key → Option Outcome)
       → Option (List Answer)) (lack : (Key → Option Outcome) → List Key) (u : Tree) (us : Trees)
       → Stands p says lacks u → StandAll p say lack us → StandAll p (λ q. both (says q) (say q)) (λ q. lacks q ++ lack q) (tree u us)
   stand_more says lacks say lack u us s rest = record {

@@ -4,13 +4,14 @@ use Rattle.std.specs.List.{AllByRecursion, IsDistinct, list_any}
 use Rattle.std.proofs.lemmas.List.{append-nil}
 use Rattle.std.proofs.lemmas.List.Folds.{list_any-append}
 use Rattle.indexmap.specs.IndexSet.{insert_all}
+use Rattle.serde_json.specs.Data.{Data, Items, no_items, item}
 use Rattle.dl_values.specs.Key.{Key, key_eq}
 use Rattle.dl_values.specs.declared.outcome.Outcome.{Outcome}
 use Rattle.dl_values.proofs.KeyLemmas.{key_eq-sym, key_eq-same}
 use Rattle.dl_terms.specs.declared.answer.Answer.{Answer}
-use Rattle.dl_terms.specs.Tree.{Tree, ended, load, pick, follow, each, all, Trees, no_trees, tree}
+use Rattle.dl_terms.specs.Tree.{Tree, ended, load, pick, follow, each, all, over, the_item, named, Trees, no_trees, tree}
 use Rattle.dl_terms.specs.TermAnswers.{picked, load_waits_for, waits_after, firsts, Target, target_in, target_waits, each_target_waits, Targets, targets_in}
-use Rattle.dl_terms.specs.TermAnswers.{targets_waits, answer, waits, all_wait}
+use Rattle.dl_terms.specs.TermAnswers.{targets_waits, Listed, listed, copy_waits, copies_wait, answer_at, waits_at, all_wait_at, waits}
 
 -- ---- keys of which something holds
 
@@ -57,24 +58,41 @@ module _ (known : Key → Option Outcome) where
   after_unknown next None h = tt
   after_unknown next (Some a) h = h a
 
-  mutual
-    pub waits_unknown : (t : Tree) → Unknown (waits known t)
-    waits_unknown (ended a) = tt
-    waits_unknown (load k) = load_unknown k (known k) refl
-    waits_unknown (pick t field) = waits_unknown t
-    waits_unknown (follow t field table) =
-        let next = λ (a : Answer). target_waits known (target_in table (picked field a)) in
-        all_append (λ k. known k ≡ None) (waits known t) (waits_after (answer known t) next) (waits_unknown t)
-        (after_unknown next (answer known t) (λ a. target_unknown (target_in table (picked field a))))
-    waits_unknown (each t field table) =
-        let next = λ (a : Answer). targets_waits known (targets_in table (picked field a)) in
-        all_append (λ k. known k ≡ None) (waits known t) (waits_after (answer known t) next) (waits_unknown t)
-        (after_unknown next (answer known t) (λ a. targets_unknown (targets_in table (picked field a))))
-    waits_unknown (all ts) = all_unknown ts
+  each_copy_unknown : (g : Data → List Key) → ((d : Data) → Unknown (g d)) → (ds : Items) → Unknown (copy_waits g ds)
+  each_copy_unknown g h no_items = tt
+  each_copy_unknown g h (item d ds) = all_append (λ k. known k ≡ None) (g d) (copy_waits g ds) (h d) (each_copy_unknown g h ds)
 
-    all_unknown : (ts : Trees) → Unknown (all_wait known ts)
-    all_unknown no_trees = tt
-    all_unknown (tree t ts) = all_append (λ k. known k ≡ None) (waits known t) (all_wait known ts) (waits_unknown t) (all_unknown ts)
+  copies_unknown : (g : Data → List Key) → ((d : Data) → Unknown (g d)) → (x : Listed) → Unknown (copies_wait g x)
+  copies_unknown g h (Listed.items ds) = each_copy_unknown g h ds
+  copies_unknown g h (Listed.none fault) = tt
+
+  mutual
+    waits_at_unknown : (i : Option Data) (t : Tree) → Unknown (waits_at known i t)
+    waits_at_unknown i (ended a) = tt
+    waits_at_unknown i (load k) = load_unknown k (known k) refl
+    waits_at_unknown i (pick t field) = waits_at_unknown i t
+    waits_at_unknown i (follow t field table) =
+        let next = λ (a : Answer). target_waits known (target_in table (picked field a)) in
+        all_append (λ k. known k ≡ None) (waits_at known i t) (waits_after (answer_at known i t) next) (waits_at_unknown i t)
+        (after_unknown next (answer_at known i t) (λ a. target_unknown (target_in table (picked field a))))
+    waits_at_unknown i (each t field table) =
+        let next = λ (a : Answer). targets_waits known (targets_in table (picked field a)) in
+        all_append (λ k. known k ≡ None) (waits_at known i t) (waits_after (answer_at known i t) next) (waits_at_unknown i t)
+        (after_unknown next (answer_at known i t) (λ a. targets_unknown (targets_in table (picked field a))))
+    waits_at_unknown i (all ts) = all_unknown i ts
+    waits_at_unknown i (over t body) =
+        let next = λ (a : Answer). copies_wait (λ d. waits_at known (Some d) body) (listed a) in
+        all_append (λ k. known k ≡ None) (waits_at known i t) (waits_after (answer_at known i t) next) (waits_at_unknown i t)
+        (after_unknown next (answer_at known i t) (λ a. copies_unknown (λ d. waits_at known (Some d) body) (λ d. waits_at_unknown (Some d) body) (listed a)))
+    waits_at_unknown i the_item = tt
+    waits_at_unknown i (named names ts) = all_unknown i ts
+
+    all_unknown : (i : Option Data) (ts : Trees) → Unknown (all_wait_at known i ts)
+    all_unknown i no_trees = tt
+    all_unknown i (tree t ts) = all_append (λ k. known k ≡ None) (waits_at known i t) (all_wait_at known i ts) (waits_at_unknown i t) (all_unknown i ts)
+
+  pub waits_unknown : (t : Tree) → Unknown (waits known t)
+  waits_unknown t = waits_at_unknown None t
 
 -- ---- each stands once
 

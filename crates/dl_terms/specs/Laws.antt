@@ -1,11 +1,14 @@
 -- The laws of what terms give.
-use Rattle.std.specs.Prelude.{◌≡◌, ℕ, ◌≤◌, ◌↔◌, [], None, All}
+use Rattle.std.specs.Prelude.{◌≡◌, ℕ, ◌≤◌, ◌↔◌, [], ◌++◌, Option, Some, None, All, option_and_then}
 use Rattle.std.specs.List.{IsDistinct}
 use Rattle.indexmap.specs.IndexSet.{insert_all}
-use Rattle.dl_values.specs.Key.{key_eq}
+use Rattle.serde_json.specs.Data.{Data}
+use Rattle.dl_values.specs.Key.{Key, key_eq}
+use Rattle.dl_values.specs.declared.outcome.Outcome.{Outcome}
 use Rattle.dl_terms.specs.declared.answer.Answer.{Answer}
-use Rattle.dl_terms.specs.Tree.{Tree, depth_of}
-use Rattle.dl_terms.specs.TermAnswers.{Pairs, outcome_in, waits, gives, frontier}
+use Rattle.dl_terms.specs.declared.answer.Answer.TheVariants.{Fault}
+use Rattle.dl_terms.specs.Tree.{Tree, ended, all, over, depth_of, height_of, with_item, copies}
+use Rattle.dl_terms.specs.TermAnswers.{Pairs, Listed, listed, outcome_in, answer, answer_at, waits, waits_at, waits_after, gives, frontier}
 use Rattle.dl_terms.specs.Relation.{Gives}
 use Rattle.dl_terms.specs.Rounds.{Gains, GainsFrontier, PartOf}
 
@@ -40,3 +43,27 @@ WaitsOnce = (t : Tree) (p : Pairs) → IsDistinct key_eq (frontier t p)
 -- a round that begins with no wanted keys leaves exactly those that the term waits for
 abbrev pub WantsFrontier : Type 0
 WantsFrontier = (t : Tree) (p : Pairs) → insert_all key_eq [] (waits (outcome_in p) t) ≡ frontier t p
+
+-- what the copies of a body are together: an `all`, or the fault in its place
+abbrev pub all_copies : Tree → Listed → Tree
+all_copies body (Listed.items ds) = all (copies body ds)
+all_copies body (Listed.none f) = ended (Fault f)
+
+-- a body gives and waits, for an item, as the tree with the item in its place does
+pub record SubstitutionHolds (known : Key → Option Outcome) : Type 0 where
+  pub given : (d : Data) (t : Tree) → answer_at known (Some d) t ≡ answer known (with_item d t)
+  pub waiting : (d : Data) (t : Tree) → waits_at known (Some d) t ≡ waits known (with_item d t)
+
+-- an over gives what its part and then the copies of its body, together, give; and so it waits
+pub record OverIsAll (known : Key → Option Outcome) : Type 0 where
+  pub given : (t body : Tree) → answer known (over t body) ≡ option_and_then (λ a. answer known (all_copies body (listed a))) (answer known t)
+  pub waiting : (t body : Tree) → waits known (over t body)
+      ≡ waits known t ++ waits_after (answer known t) (λ a. waits known (all_copies body (listed a)))
+
+-- a copy is as deep and as high as its body
+pub record CopiesAreAsDeep : Type 0 where
+  pub deep : (d : Data) (t : Tree) → depth_of (with_item d t) ≡ depth_of t
+  pub high : (d : Data) (t : Tree) → height_of (with_item d t) ≡ height_of t
+
+abbrev pub GivesBySubstitution : Type 0
+GivesBySubstitution = ((known : Key → Option Outcome) → SubstitutionHolds known) × ((known : Key → Option Outcome) → OverIsAll known) × CopiesAreAsDeep

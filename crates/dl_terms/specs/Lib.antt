@@ -1,3 +1,4 @@
+pub mod Joined
 pub mod Tree
 pub mod AnswerValue
 pub mod AnswerDepth

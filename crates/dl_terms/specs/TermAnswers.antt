@@ -1,8 +1,8 @@
 -- What a term gives, and which keys it waits for, if some keys have their outcomes (Haxl: a computation is `Done` with
 -- an answer or `Blocked` on its fetches).
-use Rattle.std.specs.Prelude.{◌≡◌, ℕ, List, [], ◌∷◌, ◌++◌, filter, not, length, Bool, ◌&&◌, nat_le, nat_lt, Option, Some, None, option_map, option_and_then}
+use Rattle.std.specs.Prelude.{◌≡◌, ℕ, suc, List, [], ◌∷◌, ◌++◌, filter, not, length, Bool, ◌&&◌, nat_le, nat_lt, Option, Some, None, option_map, option_and_then}
 use Rattle.std.specs.Prelude.{if◌then◌else◌}
-use Rattle.serde_json.specs.Data.{Data, array, Items, no_items, item}
+use Rattle.serde_json.specs.Data.{Data, array, object, Items, no_items, item}
 use Rattle.serde_json.specs.Find.{get, as_str, as_array}
 use Rattle.dl_values.specs.Key.{Key, key_eq, table_bytes, id_bytes}
 use Rattle.dl_values.specs.declared.outcome.Outcome.{Outcome}
@@ -11,7 +11,8 @@ use Rattle.dl_terms.specs.declared.answer.Answer.{Answer}
 use Rattle.dl_terms.specs.declared.answer.Answer.TheVariants.{Value, Fault}
 use Rattle.dl_terms.specs.declared.answer.EvalFault.{EvalFault}
 use Rattle.dl_terms.specs.declared.answer.EvalFault.TheVariants as why
-use Rattle.dl_terms.specs.Tree.{Name, Tree, ended, load, pick, follow, each, all, Trees, no_trees, tree}
+use Rattle.dl_terms.specs.Joined.{members_with}
+use Rattle.dl_terms.specs.Tree.{Name, Tree, ended, load, pick, follow, each, all, over, the_item, named, Trees, no_trees, tree}
 
 -- pairs of a key and its outcome; of two pairs with the same key the first counts
 abbrev pub Pairs : Type 0
@@ -69,7 +70,7 @@ abbrev pub item_targets : Name → Items → List Target
 item_targets table no_items = []
 item_targets table (item d ds) = value_target table d ∷ item_targets table ds
 
--- the most items of a list of ids
+-- the most items of a list
 abbrev pub most_items : ℕ
 most_items = 1024
 
@@ -102,13 +103,56 @@ abbrev pub gather : List Answer → Gathered
 gather [] = Gathered.values no_items
 gather (a ∷ rest) = before_all a (gather rest)
 
-abbrev pub ended_as : Gathered → Answer
-ended_as (Gathered.values ds) = Value (array ds)
-ended_as (Gathered.fault f) = Fault f
+-- how the values of parts come together: as a list, or as an object with these names
+pub data Joint : Type 0 where
+  listing : Joint
+  naming : List Name → Joint
 
--- what parts answer together: the list of their values, or the leftmost fault
+abbrev pub joined_data : Joint → Items → Data
+joined_data listing ds = array ds
+joined_data (naming names) ds = object (members_with names ds)
+
+abbrev pub joined_as : Joint → Gathered → Answer
+joined_as j (Gathered.values ds) = Value (joined_data j ds)
+joined_as j (Gathered.fault f) = Fault f
+
+-- what parts answer together: their values, joined, or the leftmost fault
+abbrev pub joined : Joint → List Answer → Answer
+joined j xs = joined_as j (gather xs)
+
+-- the list of their values, or the leftmost fault
 abbrev pub gathered : List Answer → Answer
-gathered xs = ended_as (gather xs)
+gathered xs = joined listing xs
+
+-- the object of their values under these names, or the leftmost fault
+abbrev pub assembled : List Name → List Answer → Answer
+assembled names xs = joined (naming names) xs
+
+-- the items to go over, or the fault in their place
+pub data Listed : Type 0 where
+  items : Items → Listed
+  none : EvalFault → Listed
+
+abbrev pub items_count : Items → ℕ
+items_count no_items = 0
+items_count (item d ds) = suc (items_count ds)
+
+abbrev pub few_items : Items → Listed
+few_items ds = if nat_lt most_items (items_count ds) then Listed.none why.TooMany else Listed.items ds
+
+abbrev pub list_items : Option Items → Listed
+list_items None = Listed.none why.NotAList
+list_items (Some ds) = few_items ds
+
+-- the items of an answer that is a list
+abbrev pub listed : Answer → Listed
+listed (Value d) = list_items (as_array d)
+listed (Fault f) = Listed.none f
+
+-- the item of the `over` around a term, if one is
+abbrev pub item_answer : Option Data → Answer
+item_answer None = Fault why.NoItem
+item_answer (Some d) = Value d
 
 abbrev pub both : {A : Type 0} → Option A → Option (List A) → Option (List A)
 both None rest = None
@@ -117,6 +161,24 @@ both (Some a) rest = option_map (λ xs. a ∷ xs) rest
 abbrev pub load_waits_for : Key → Option Outcome → List Key
 load_waits_for k None = k ∷ []
 load_waits_for k (Some o) = []
+
+-- what the copies of a body answer, one for each item
+abbrev pub copy_answers : (Data → Option Answer) → Items → Option (List Answer)
+copy_answers copy no_items = Some []
+copy_answers copy (item d ds) = both (copy d) (copy_answers copy ds)
+
+-- and together
+abbrev pub copies_answer : (Data → Option Answer) → Listed → Option Answer
+copies_answer copy (Listed.items ds) = option_map gathered (copy_answers copy ds)
+copies_answer copy (Listed.none f) = Some (Fault f)
+
+abbrev pub copy_waits : (Data → List Key) → Items → List Key
+copy_waits copy no_items = []
+copy_waits copy (item d ds) = copy d ++ copy_waits copy ds
+
+abbrev pub copies_wait : (Data → List Key) → Listed → List Key
+copies_wait copy (Listed.items ds) = copy_waits copy ds
+copies_wait copy (Listed.none f) = []
 
 -- what comes after a part waits for nothing while the part waits
 abbrev pub waits_after : Option Answer → (Answer → List Key) → List Key
@@ -141,18 +203,28 @@ module _ (known : Key → Option Outcome) where
   targets_answer (Targets.keys xs) = option_map gathered (target_answers xs)
   targets_answer (Targets.none f) = Some (Fault f)
 
+  -- i is the item of the `over` whose body the term lies in, if it lies in one
   abbrev mutual
-    pub answer : Tree → Option Answer
-    answer (ended a) = Some a
-    answer (load k) = load_answer k
-    answer (pick t field) = option_map (picked field) (answer t)
-    answer (follow t field table) = option_and_then (λ a. target_answer (target_in table (picked field a))) (answer t)
-    answer (each t field table) = option_and_then (λ a. targets_answer (targets_in table (picked field a))) (answer t)
-    answer (all ts) = option_map gathered (answers ts)
+    pub answer_at : Option Data → Tree → Option Answer
+    answer_at i (ended a) = Some a
+    answer_at i (load k) = load_answer k
+    answer_at i (pick t field) = option_map (picked field) (answer_at i t)
+    answer_at i (follow t field table) = option_and_then (λ a. target_answer (target_in table (picked field a))) (answer_at i t)
+    answer_at i (each t field table) = option_and_then (λ a. targets_answer (targets_in table (picked field a))) (answer_at i t)
+    answer_at i (all ts) = option_map gathered (answers_at i ts)
+    answer_at i (over t body) = option_and_then (λ a. copies_answer (λ d. answer_at (Some d) body) (listed a)) (answer_at i t)
+    answer_at i the_item = Some (item_answer i)
+    answer_at i (named names ts) = option_map (assembled names) (answers_at i ts)
 
-    pub answers : Trees → Option (List Answer)
-    answers no_trees = Some []
-    answers (tree t ts) = both (answer t) (answers ts)
+    pub answers_at : Option Data → Trees → Option (List Answer)
+    answers_at i no_trees = Some []
+    answers_at i (tree t ts) = both (answer_at i t) (answers_at i ts)
+
+  abbrev pub answer : Tree → Option Answer
+  answer t = answer_at None t
+
+  abbrev pub answers : Trees → Option (List Answer)
+  answers ts = answers_at None ts
 
   -- ---- the keys of the loads that wait, left to right, each as often as a load of it waits
 
@@ -172,17 +244,26 @@ module _ (known : Key → Option Outcome) where
   targets_waits (Targets.none f) = []
 
   abbrev mutual
-    pub waits : Tree → List Key
-    waits (ended a) = []
-    waits (load k) = load_waits k
-    waits (pick t field) = waits t
-    waits (follow t field table) = waits t ++ waits_after (answer t) (λ a. target_waits (target_in table (picked field a)))
-    waits (each t field table) = waits t ++ waits_after (answer t) (λ a. targets_waits (targets_in table (picked field a)))
-    waits (all ts) = all_wait ts
+    pub waits_at : Option Data → Tree → List Key
+    waits_at i (ended a) = []
+    waits_at i (load k) = load_waits k
+    waits_at i (pick t field) = waits_at i t
+    waits_at i (follow t field table) = waits_at i t ++ waits_after (answer_at i t) (λ a. target_waits (target_in table (picked field a)))
+    waits_at i (each t field table) = waits_at i t ++ waits_after (answer_at i t) (λ a. targets_waits (targets_in table (picked field a)))
+    waits_at i (all ts) = all_wait_at i ts
+    waits_at i (over t body) = waits_at i t ++ waits_after (answer_at i t) (λ a. copies_wait (λ d. waits_at (Some d) body) (listed a))
+    waits_at i the_item = []
+    waits_at i (named names ts) = all_wait_at i ts
 
-    pub all_wait : Trees → List Key
-    all_wait no_trees = []
-    all_wait (tree t ts) = waits t ++ all_wait ts
+    pub all_wait_at : Option Data → Trees → List Key
+    all_wait_at i no_trees = []
+    all_wait_at i (tree t ts) = waits_at i t ++ all_wait_at i ts
+
+  abbrev pub waits : Tree → List Key
+  waits t = waits_at None t
+
+  abbrev pub all_wait : Trees → List Key
+  all_wait ts = all_wait_at None ts
 
 -- each key once, at its first place
 abbrev pub firsts : List Key → List Key

@@ -23,8 +23,10 @@ pub enum EvalFault {
     NoField,
     /// A value in the place of an id isn't a text of 1 to 256 bytes.
     NotAKey,
-    /// A value in the place of a list of ids isn't a list.
+    /// A value in the place of a list isn't a list.
     NotAList,
-    /// A list of ids has more than 1,024 items.
+    /// A list of ids, or of items to go over, has more than 1,024 items.
     TooMany,
+    /// An `Item` lies in the body of no `Over`.
+    NoItem,
 }

@@ -1,13 +1,14 @@
 //! The values that answers give.
 
-ghost use Rattle.std.specs.Prelude.{◌≡◌, ◌++◌, false, IfOk, IfSome, OnOk, option_map, string_bytes};
-ghost use Rattle.serde_json.specs.Data.{array};
-ghost use Rattle.serde_json.specs.Find.{get};
-ghost use Rattle.serde_json.specs.View.{view, items_of, items_view};
-ghost use Rattle.serde_json.specs.Written.{has_float, items_have_float, compact_text};
+ghost use Rattle.std.specs.Prelude.{◌≡◌, ◌++◌, false, IfOk, IfSome, OnOk, map, option_map, slice_get, string_bytes};
+ghost use Rattle.serde_json.specs.Data.{array, object};
+ghost use Rattle.serde_json.specs.Find.{as_array, get};
+ghost use Rattle.serde_json.specs.View.{view, items_of, items_view, members_view};
+ghost use Rattle.serde_json.specs.Written.{has_float, items_have_float, members_have_float, compact_text};
+ghost use Rattle.dl_terms.specs.Joined.{members_with, put_named};
 
-use dl_values::Json;
-use serde_json::Value;
+use dl_values::{Json, Text};
+use serde_json::{Map, Value};
 use std::alloc::{AllocError, Global};
 use std::fmt;
 use std::fmt::Write;
@@ -43,6 +44,23 @@ impl Drop for Shape {
         match self {
             Shape::Row(row) => drop(row),
             Shape::List(values) => drop(values),
+        }
+    }
+}
+
+impl Shape {
+    ghost use Rattle.dl_terms.specs.AnswerValue.{tree_of};
+
+    /// The items, if it is a list.
+    ///
+    /// # Errors
+    /// `AllocError` if memory runs out.
+    fn into_items(self, alloc: Global) -> Result<Option<Vec<AnswerValue>>, AllocError>
+        ensures { IfOk result (λ o. option_map (λ vs. items_of vs.items) o ≡ as_array (tree_of self)) }
+    {
+        match self {
+            Shape::Row(row) => row_items(alloc, &row),
+            Shape::List(values) => Ok(Some(values)),
         }
     }
 }
@@ -83,6 +101,34 @@ impl AnswerValue {
         AnswerValue {
             shape: Shape::List(values),
         }
+    }
+
+    /// The object of these values under these names, in order. Of values with the same name the first counts, and a
+    /// value without a name isn't there.
+    ///
+    /// # Errors
+    /// `AllocError` if memory runs out.
+    pub fn object(
+        alloc: Global,
+        names: &Vec<Text>,
+        values: Vec<AnswerValue>,
+    ) -> Result<AnswerValue, AllocError>
+        ensures { IfOk result (λ v. v ≡ object (members_with names.now.items (items_of values.items))) }
+    {
+        let members = members_of(alloc, names, values)?;
+        let row = Json::new(alloc, Value::Object(members))?;
+        Ok(AnswerValue::row(row))
+    }
+
+    /// The items, if the value is a list.
+    ///
+    /// # Errors
+    /// `AllocError` if memory runs out.
+    pub fn into_items(self, alloc: Global) -> Result<Option<Vec<AnswerValue>>, AllocError>
+        ensures { IfOk result (λ o. option_map (λ vs. items_of vs.items) o ≡ as_array self) }
+    {
+        let AnswerValue { shape } = self;
+        shape.into_items(alloc)
     }
 
     /// The member of this name, if the value is an object that has one. A list has none.
@@ -133,6 +179,67 @@ impl AnswerValue {
             }
         }
     }
+}
+
+/// The items of a row, each as a row of its own, if the row is a list.
+fn row_items(alloc: Global, row: &Json) -> Result<Option<Vec<AnswerValue>>, AllocError>
+    ensures { IfOk result (λ o. option_map (λ vs. items_of vs.items) o ≡ as_array row.now) }
+{
+    match row.value().as_array() {
+        None => Ok(None),
+        Some(items) => Ok(Some(rows_of(alloc, items)?)),
+    }
+}
+
+fn rows_of(alloc: Global, items: &Vec<Value>) -> Result<Vec<AnswerValue>, AllocError>
+    requires { items_have_float (items_view items.now.items) ≡ false }
+    ensures { IfOk result (λ rows. rows.items ≡ map view items.now.items) }
+{
+    let mut rows = Vec::with_capacity(alloc, items.len())?;
+    for item in items {
+        let row = Json::new(alloc, item.clone()?)?;
+        rows.push(AnswerValue::row(row))?;
+    }
+    Ok(rows)
+}
+
+/// The members with these names and values.
+fn members_of(
+    alloc: Global,
+    names: &Vec<Text>,
+    values: Vec<AnswerValue>,
+) -> Result<Map<String, Value>, AllocError>
+    ensures members { IfOk result (λ m. members_view m.entries ≡ members_with names.now.items (items_of values.items)) }
+    ensures whole { IfOk result (λ m. members_have_float (members_view m.entries) ≡ false) }
+{
+    let mut values = values;
+    let mut members = Map::new(alloc);
+    while let Some(value) = values.pop() {
+        put_at(alloc, names, values.len(), &value, &mut members)?;
+    }
+    Ok(members)
+}
+
+/// Puts a value at the name in this place, if there is one.
+fn put_at(
+    alloc: Global,
+    names: &Vec<Text>,
+    place: usize,
+    value: &AnswerValue,
+    members: &mut Map<String, Value>,
+) -> Result<(), AllocError>
+    ensures put { OnOk result (members_view members.new.entries
+        ≡ put_named (slice_get names.now.items place) value.now (members_view members.old.entries)) }
+    ensures whole { OnOk result
+        (members_have_float (members_view members.old.entries) ≡ false → members_have_float (members_view members.new.entries) ≡ false) }
+{
+    let Some(name) = names.get(place) else {
+        return Ok(());
+    };
+    let name = String::from_str(alloc, name.as_str())?;
+    let value = copy(alloc, value)?;
+    drop(members.insert(name, value)?);
+    Ok(())
 }
 
 /// Appends the text of a value.

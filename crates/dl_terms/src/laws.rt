@@ -1,6 +1,6 @@
 //! Laws of what terms give, for every term and all outcomes. Each function does nothing: its contract is the law.
 
-ghost use Rattle.dl_terms.specs.Laws.{GivesOnce, GivesForEver, GivesOrWaits, GivesByDepth, GivesByRules, WaitsForUnknown, WaitsOnce, WantsFrontier};
+ghost use Rattle.dl_terms.specs.Laws.{GivesOnce, GivesForEver, GivesOrWaits, GivesByDepth, GivesByRules, GivesBySubstitution, WaitsForUnknown, WaitsOnce, WantsFrontier};
 
 /// A term gives at most one answer.
 pub fn gives_once()
@@ -26,6 +26,12 @@ pub fn gives_by_depth()
 /// The answer that the definitions compute is the one that the rules of a term's forms give.
 pub fn gives_by_rules()
     ensures { GivesByRules }
+{}
+
+/// An `Over` gives, and waits for, what its part and then an `All` of copies of its body do. Each copy is the body with an
+/// item in the place of `Item`, and is as deep and as high as the body.
+pub fn gives_by_substitution()
+    ensures { GivesBySubstitution }
 {}
 
 /// None of the keys that a term waits for has an outcome yet.

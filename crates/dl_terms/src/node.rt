@@ -22,7 +22,18 @@ pub enum Node {
     /// What the frames make of the part's answer, one after the other. The last frame is the innermost.
     Chain { part: Box<Node>, frames: Vec<Frame> },
     /// What the parts answer together.
-    All(Vec<Node>),
+    Parts { parts: Vec<Node>, by: Join },
+    /// An item in no body.
+    Item,
+}
+
+/// How the values of parts come together.
+#[derive(Drop)]
+pub enum Join {
+    /// As a list.
+    List,
+    /// As an object, with these names.
+    Object(Vec<Text>),
 }
 
 /// What to make of the answer of a part.
@@ -34,6 +45,8 @@ pub enum Frame {
     Follow { field: Text, table: Text },
     /// The loads of the ids that its field lists.
     Each { field: Text, table: Text },
+    /// What the body gives for each of its items.
+    Over { body: Box<Term> },
 }
 
 /// Fills a node's place while the node changes.
@@ -65,7 +78,7 @@ impl Node {
                     None
                 }
             }
-            Node::Load { .. } | Node::All(_) => None,
+            Node::Load { .. } | Node::Parts { .. } | Node::Item => None,
         }
     }
 
@@ -76,7 +89,7 @@ impl Node {
         match self {
             Node::Done(_) => true,
             Node::Chain { part, frames } => frames.is_empty() && part.has_ended(),
-            Node::Load { .. } | Node::All(_) => false,
+            Node::Load { .. } | Node::Parts { .. } | Node::Item => false,
         }
     }
 }
@@ -100,11 +113,19 @@ pub fn unexplored(alloc: Global, term: Term) -> Result<Node, AllocError>
             Term::Load(key) => return in_frames(alloc, Node::Load { key, place: 0 }, frames),
             Term::All(parts) => {
                 let parts = unexplored_all(alloc, parts)?;
-                return in_frames(alloc, Node::All(parts), frames);
+                let by = Join::List;
+                return in_frames(alloc, Node::Parts { parts, by }, frames);
             }
+            Term::Object { names, parts } => {
+                let parts = unexplored_all(alloc, parts)?;
+                let by = Join::Object(names);
+                return in_frames(alloc, Node::Parts { parts, by }, frames);
+            }
+            Term::Item => return in_frames(alloc, Node::Item, frames),
             Term::Pick { part, field } => (Frame::Pick { field }, part),
             Term::Follow { part, field, table } => (Frame::Follow { field, table }, part),
             Term::Each { part, field, table } => (Frame::Each { field, table }, part),
+            Term::Over { part, body } => (Frame::Over { body }, part),
         };
         frames.push(frame)?;
         term = Box::into_inner(part);

@@ -18,7 +18,10 @@ use serde_json::Value;
 use std::alloc::{AllocError, Global};
 
 /// What a load of the key answers.
-fn loaded(key: &FetchKey, outcome: &Outcome) -> Result<Answer, AllocError>
+///
+/// # Errors
+/// `AllocError` if memory runs out, or if a reference count would overflow.
+pub fn loaded(key: &FetchKey, outcome: &Outcome) -> Result<Answer, AllocError>
     ensures { IfOk result (λ a. a ≡ loaded key.now outcome.now) }
 {
     match outcome {
@@ -35,7 +38,7 @@ fn loaded(key: &FetchKey, outcome: &Outcome) -> Result<Answer, AllocError>
 }
 
 /// The load of a key: its answer, if the key has an outcome. Else the run wants the key.
-fn load(key: FetchKey, asked: &mut Asked<'_>) -> Result<Node, AllocError>
+pub(crate) fn load(key: FetchKey, asked: &mut Asked<'_>) -> Result<Node, AllocError>
     ensures stands { IfOk result (λ n. LoadsTarget (known_of asked.old) (Target.key key) (node_view n)) }
     ensures wanted { OnOk result (wanted_of asked.new
         ≡ insert_all key_eq (wanted_of asked.old) (load_waits (known_of asked.old) key)) }

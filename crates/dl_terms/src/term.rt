@@ -1,10 +1,11 @@
 //! Fetch terms.
 
-ghost use Rattle.std.specs.Prelude.{◌≡◌, ◌-◌, ◌^◌, min};
-ghost use Rattle.dl_terms.specs.Tree.{depth_of, height_of};
-ghost use Rattle.dl_terms.specs.View.{term_view};
+ghost use Rattle.std.specs.Prelude.{◌≡◌, ◌-◌, ◌^◌, min, IfOk};
+ghost use Rattle.dl_terms.specs.Tree.{depth_of, depth_of_all, height_of, height_of_all};
+ghost use Rattle.dl_terms.specs.View.{term_view, terms_view};
 
 use dl_values::{FetchKey, Json, Text};
+use std::alloc::{AllocError, Global};
 
 /// What to load, and how to go on from what you get (Haxl: a computation of `Done` and `Blocked`). Give each `table` 1
 /// to 64 bytes: with any other length its loads give `NotAKey`.
@@ -23,10 +24,10 @@ use dl_values::{FetchKey, Json, Text};
 /// ```
 ///
 /// # Stack
-/// `depth`, `height` and dropping a term recurse as deep as the term is high. [`unexplored`](crate::unexplored) and
-/// [`explore`](crate::explore) recurse as deep as its lists lie inside one another. Nothing bounds a term: if strangers
-/// send you terms, bound their height. With 8 MiB of stack and an unoptimised build, `depth` and `height` had room for
-/// a chain of picks of height 7,000.
+/// `depth`, `height`, a copy and dropping a term recurse as deep as the term is high. [`unexplored`](crate::unexplored)
+/// and [`explore`](crate::explore) recurse as deep as its lists and objects lie inside one another, and in a body as
+/// deep as the body is high. Nothing bounds a term: if strangers send you terms, bound their height. With 8 MiB of
+/// stack and an unoptimised build, `depth` and `height` had room for a chain of picks of height 7,000.
 #[derive(Debug, Drop)]
 pub enum Term {
     /// A value.
@@ -52,44 +53,160 @@ pub enum Term {
     },
     /// The list of the parts' values.
     All(Vec<Term>),
+    /// The list of what the body gives for each item of the part's value, a list of at most 1,024 items.
+    Over {
+        part: Box<Term>,
+        body: Box<Term>,
+    },
+    /// The item, in the body of the nearest `Over` around it.
+    Item,
+    /// The object of the parts' values. Give it a name for each part, in order: of parts with the same name the first
+    /// counts.
+    Object {
+        names: Vec<Text>,
+        parts: Vec<Term>,
+    },
 }
 
 impl Term {
     /// The most rounds of loads that the term takes, or `u32::MAX` if they are more.
+    #[cycle(deep)]
     pub fn depth(&self) -> u32
         ensures { result ≡ min (depth_of (term_view self.now)) (2 ^ 32 - 1) }
     {
         match self {
-            Term::Value(_) => 0,
+            Term::Value(_) | Term::Item => 0,
             Term::Load(_) => 1,
             Term::Pick { part, .. } => part.depth(),
             Term::Follow { part, .. } | Term::Each { part, .. } => part.depth().saturating_add(1),
-            Term::All(parts) => {
-                let mut most = 0;
-                for part in parts {
-                    most = u32::max(most, part.depth());
-                }
-                most
-            }
+            Term::All(parts) => deepest(parts),
+            Term::Over { part, body } => part.depth().saturating_add(body.depth()),
+            Term::Object { parts, .. } => deepest(parts),
         }
     }
 
-    /// How high the term is as a tree, or `u32::MAX` if it is higher. A value and a load have height 1.
+    /// How high the term is as a tree, or `u32::MAX` if it is higher. A value, a load and an item have height 1.
+    #[cycle(high)]
     pub fn height(&self) -> u32
         ensures { result ≡ min (height_of (term_view self.now)) (2 ^ 32 - 1) }
     {
         match self {
-            Term::Value(_) | Term::Load(_) => 1,
+            Term::Value(_) | Term::Load(_) | Term::Item => 1,
             Term::Pick { part, .. } | Term::Follow { part, .. } | Term::Each { part, .. } => {
                 part.height().saturating_add(1)
             }
-            Term::All(parts) => {
-                let mut most: u32 = 0;
-                for part in parts {
-                    most = u32::max(most, part.height());
-                }
-                most.saturating_add(1)
+            Term::All(parts) => highest(parts).saturating_add(1),
+            Term::Over { part, body } => {
+                u32::max(part.height(), body.height()).saturating_add(1)
             }
+            Term::Object { parts, .. } => highest(parts).saturating_add(1),
         }
     }
+
+    /// The same term, with memory of its own.
+    ///
+    /// # Errors
+    /// `AllocError` if memory runs out, or if a reference count would overflow.
+    pub fn try_copy(&self, alloc: Global) -> Result<Term, AllocError>
+        ensures { IfOk result (λ t. term_view t ≡ term_view self.now) }
+    {
+        copy_of(alloc, self)
+    }
+}
+
+/// The depth of the deepest term.
+#[cycle(deep)]
+fn deepest(parts: &Vec<Term>) -> u32
+    ensures { result ≡ min (depth_of_all (terms_view parts.now.items)) (2 ^ 32 - 1) }
+{
+    let mut most = 0;
+    for part in parts {
+        most = u32::max(most, part.depth());
+    }
+    most
+}
+
+/// The height of the highest term.
+#[cycle(high)]
+fn highest(parts: &Vec<Term>) -> u32
+    ensures { result ≡ min (height_of_all (terms_view parts.now.items)) (2 ^ 32 - 1) }
+{
+    let mut most = 0;
+    for part in parts {
+        most = u32::max(most, part.height());
+    }
+    most
+}
+
+#[cycle(term_copies)]
+fn copy_of(alloc: Global, term: &Term) -> Result<Term, AllocError>
+    ensures { IfOk result (λ t. term_view t ≡ term_view term.now) }
+{
+    match term {
+        Term::Value(value) => Ok(Term::Value(value.try_copy()?)),
+        Term::Load(key) => Ok(Term::Load(key.try_copy()?)),
+        Term::Item => Ok(Term::Item),
+        Term::Pick { part, field } => {
+            let part = boxed_copy(alloc, part)?;
+            let field = field.try_copy()?;
+            Ok(Term::Pick { part, field })
+        }
+        Term::Follow { part, field, table } => {
+            let part = boxed_copy(alloc, part)?;
+            let (field, table) = (field.try_copy()?, table.try_copy()?);
+            Ok(Term::Follow { part, field, table })
+        }
+        Term::Each { part, field, table } => {
+            let part = boxed_copy(alloc, part)?;
+            let (field, table) = (field.try_copy()?, table.try_copy()?);
+            Ok(Term::Each { part, field, table })
+        }
+        Term::All(parts) => Ok(Term::All(copies_of(alloc, parts)?)),
+        Term::Over { part, body } => {
+            let part = boxed_copy(alloc, part)?;
+            let body = boxed_copy(alloc, body)?;
+            Ok(Term::Over { part, body })
+        }
+        Term::Object { names, parts } => {
+            let names = copy_names(alloc, names)?;
+            let parts = copies_of(alloc, parts)?;
+            Ok(Term::Object { names, parts })
+        }
+    }
+}
+
+/// The same term, with memory of its own.
+///
+/// # Errors
+/// `AllocError` if memory runs out.
+#[cycle(term_copies)]
+pub(crate) fn boxed_copy(alloc: Global, term: &Term) -> Result<Box<Term>, AllocError>
+    ensures { IfOk result (λ t. term_view t.value ≡ term_view term.now) }
+{
+    Ok(Box::new(alloc, copy_of(alloc, term)?)?)
+}
+
+#[cycle(term_copies)]
+fn copies_of(alloc: Global, terms: &Vec<Term>) -> Result<Vec<Term>, AllocError>
+    ensures { IfOk result (λ ts. terms_view ts.items ≡ terms_view terms.now.items) }
+{
+    let mut copies = Vec::with_capacity(alloc, terms.len())?;
+    for term in terms {
+        copies.push(copy_of(alloc, term)?)?;
+    }
+    Ok(copies)
+}
+
+/// The same names, with memory of their own.
+///
+/// # Errors
+/// `AllocError` if memory runs out.
+pub(crate) fn copy_names(alloc: Global, names: &Vec<Text>) -> Result<Vec<Text>, AllocError>
+    ensures { IfOk result (λ ns. ns.items ≡ names.now.items) }
+{
+    let mut copies = Vec::with_capacity(alloc, names.len())?;
+    for name in names {
+        copies.push(name.try_copy()?)?;
+    }
+    Ok(copies)
 }

@@ -24,6 +24,7 @@ fn eval_fault_text(alloc: Global, fault: &EvalFault) -> Result<String, AllocErro
         EvalFault::NotAKey => String::from_str(alloc, "not a key"),
         EvalFault::NotAList => String::from_str(alloc, "not a list"),
         EvalFault::TooMany => String::from_str(alloc, "too many"),
+        EvalFault::NoItem => String::from_str(alloc, "no item"),
     }
 }
 

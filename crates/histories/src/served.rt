@@ -81,6 +81,7 @@ fn push_fault(sheet: &mut Sheet, fault: &EvalFault) {
         EvalFault::NotAKey => sheet.push(" fault NotAKey"),
         EvalFault::NotAList => sheet.push(" fault NotAList"),
         EvalFault::TooMany => sheet.push(" fault TooMany"),
+        EvalFault::NoItem => sheet.push(" fault NoItem"),
     }
 }
 

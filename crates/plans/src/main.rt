@@ -19,16 +19,16 @@ fn main(rt: HostRuntime) -> ExitCode {
     ExitCode::from(status)
 }
 
-/// Writes what the options ask for to standard output: the document on standard input as version 2, or what it gives; or the
-/// events of a history.
+/// Writes what the options ask for to standard output: the document on standard input in a later version, or what it gives;
+/// or the events of a history.
 fn written<R: Input + Print + Eprint + AllocGlobal + Threads + Wait + Sync + Files + RandomSource>(
     rt: &R,
     hashing: RandomState,
     options: Options,
 ) -> Result<(), RunError> {
     let (alloc, mut reader, mut writer) = (rt.alloc(), rt.reader(), io::writer(rt));
-    if options.migrate {
-        run_migrate(alloc, hashing, &mut reader, &mut writer)
+    if let Some(target) = options.migrate {
+        run_migrate(alloc, hashing, &mut reader, &mut writer, target)
     } else if let Some(file) = &options.history {
         match File::open(rt, file.as_str()) {
             Ok(mut file) => run_history(rt, alloc, hashing, &mut file, &mut writer, &options),

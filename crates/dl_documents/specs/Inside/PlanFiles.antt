@@ -21,6 +21,7 @@ use Rattle.dl_documents.specs.OwnLimits.{TableLimits}
 use Rattle.dl_documents.specs.Steps.{StepTree, eval, step_tree, IsPlanStep, IsLow, most_height, most_steps}
 use Rattle.dl_documents.specs.declared.fault.PlanFault.{PlanFault}
 use Rattle.dl_documents.specs.declared.fault.PlanFault.TheVariants.{Shape, TooDeep, TooManySteps, Table}
+use Rattle.dl_documents.specs.declared.forms.Forms.{Forms}
 use Rattle.dl_documents.specs.declared.head.Head.{Head}
 use Rattle.dl_documents.specs.declared.head.Version.{Version}
 use Rattle.dl_documents.specs.Tables.{SpellsNumbers, TableCauses, IsTableFault}
@@ -59,28 +60,28 @@ HasOther ds = (n : ℕ) × (d : Data) × (slice_get ds n ≡ Some d) × (as_arra
 
 -- ---- steps
 
--- the trees spell the steps
-pub record IsPlanOf (ds : List Data) (plan : List StepTree) : Type 0 where
+-- the trees spell the steps, whose terms have these forms
+pub record IsPlanOf (forms : Forms) (ds : List Data) (plan : List StepTree) : Type 0 where
   pub trees : ds ≡ map step_tree plan
-  pub steps : AllByRecursion IsPlanStep plan
+  pub steps : AllByRecursion (IsPlanStep forms) plan
 
 -- the lists of trees spell the steps of each plan
-pub record AreRead (rows : List (List Data)) (plans : List (List StepTree)) : Type 0 where
+pub record AreRead (forms : Forms) (rows : List (List Data)) (plans : List (List StepTree)) : Type 0 where
   pub trees : rows ≡ map (map step_tree) plans
-  pub steps : AllByRecursion (AllByRecursion IsPlanStep) plans
+  pub steps : AllByRecursion (AllByRecursion (IsPlanStep forms)) plans
 
 -- the fault names the first tree of a plan that spells no step
-pub record IsFirstBadIn (plan : ℕ) (ds : List Data) (f : PlanFault) : Type 0 where
+pub record IsFirstBadIn (forms : Forms) (plan : ℕ) (ds : List Data) (f : PlanFault) : Type 0 where
   pub step : ℕ
   pub names : f ≡ Shape plan step
-  pub first : IsFirst IsNoStep ds step
+  pub first : IsFirst (IsNoStep forms) ds step
 
 -- the fault names the first tree of all plans that spells no step
-pub record IsFirstBadStep (rows : List (List Data)) (f : PlanFault) : Type 0 where
+pub record IsFirstBadStep (forms : Forms) (rows : List (List Data)) (f : PlanFault) : Type 0 where
   pub plan : ℕ
   pub step : ℕ
   pub names : f ≡ Shape plan step
-  pub first : IsFirstIn IsNoStep rows plan step
+  pub first : IsFirstIn (IsNoStep forms) rows plan step
 
 -- ---- heights and numbers of steps
 

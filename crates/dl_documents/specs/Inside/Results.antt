@@ -1,16 +1,18 @@
 -- What is read of a document of either kind.
 use Rattle.std.specs.Prelude.{◌≡◌, ◌⊎◌, true, Option, None}
 use Rattle.serde_json.specs.Data.{Data}
-use Rattle.dl_documents.specs.Document.{IsOfVersion, has_only_known}
+use Rattle.dl_documents.specs.Document.{IsOfVersion, forms_of, has_only_known}
 use Rattle.dl_documents.specs.Faults.{Causes, IsLeast}
 use Rattle.dl_documents.specs.Numbers.{AreGiven}
 use Rattle.dl_documents.specs.declared.fault.PlanFault.{PlanFault}
 use Rattle.dl_documents.specs.declared.fault.PlanFault.TheVariants.{NotJson, OutOfMemory}
 use Rattle.dl_documents.specs.declared.head.Head.{Head}
 
--- it is of the version, its members are those of its kind and version, and its limits are given by the numbers
+-- it is of the version, its terms may have the forms, its members are those of its kind and version, and its limits are
+-- given by the numbers
 pub record HasHead (d : Data) (h : Head) : Type 0 where
   pub version : IsOfVersion d h.version
+  pub forms : h.forms ≡ forms_of d
   pub members : has_only_known h.version d ≡ true
   pub numbers : AreGiven d h.numbers
 

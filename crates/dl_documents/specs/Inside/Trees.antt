@@ -1,11 +1,11 @@
 -- The data that a document's tree stands for. The tree keeps each number as its text, and the members of an object as the text has them.
-use Rattle.std.specs.Prelude.{List, ℕ, Option, Some, None}
+use Rattle.std.specs.Prelude.{List, [], ◌∷◌, ℕ, Option, Some, None}
 use Rattle.std.specs.Borrow.{Bor}
 use Rattle.std.specs.declared.alloc.Global.{Global}
 use Rattle.json.specs.Json as json
 use Rattle.json.specs.Value.{value_view, items_view, members_view}
 use Rattle.json.specs.declared.value.Value.{Value}
-use Rattle.serde_json.specs.Data.{Num, Data, null, boolean, number, string, array, object, Items, no_items, item, Members, no_members, put}
+use Rattle.serde_json.specs.Data.{Num, Data, null, boolean, number, string, array, object, Items, no_items, item, Members, no_members, member, put}
 use Rattle.serde_json.specs.Read.{number_of}
 
 -- a number out of range, which no document has, counts as null
@@ -42,3 +42,8 @@ list_data vs = items_data (items_view vs)
 -- and of an object's members
 abbrev pub object_data : List (Bor (List ℕ) × Value Global) → Members
 object_data ms = members_data (members_view ms) no_members
+
+-- the members whose values are these trees
+abbrev pub entries_data : List (List ℕ × Value Global) → Members
+entries_data [] = no_members
+entries_data (e ∷ es) = member e.0 (tree_data e.1) (entries_data es)

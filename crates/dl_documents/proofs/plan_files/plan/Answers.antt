@@ -12,7 +12,7 @@ returns-in_err-step-2-clause-err c =
     let rest = into_iter_items c.next.new.self in
     let is : l.yielded ++ c.in-Some.item ∷ rest ≡ c.args.items.items = rw (← c.in-Some.ensures.steps.0) l.invariant.order in
     let bad : c.from_residual-in_err-step-2.result ≡ Err (Shape c.args.number c.len-in-loop-item.result) = search rules in
-    rw bad (inr (steps_stop c.args.number l.yielded c.in-Some.item rest c.args.items.items l.steps.items c.len-in-loop-item.result is (search rules)
+    rw bad (inr (steps_stop c.args.forms c.args.number l.yielded c.in-Some.item rest c.args.items.items l.steps.items c.len-in-loop-item.result is (search rules)
     l.invariant.so_far
     (search rules)))
 
@@ -23,7 +23,7 @@ loop-item-preserved c =
     let pushed : c.push.new.self.items ≡ l.steps.items ++ c.in_ok-step-2.step ∷ [] = search rules in
     record {
       order = append_assoc l.yielded (c.in-Some.item ∷ []) _ ∙ rw (← steps) l.invariant.order;
-      so_far = rw pushed (steps_more l.yielded c.in-Some.item l.steps.items c.in_ok-step-2.step l.invariant.so_far (search rules));
+      so_far = rw pushed (steps_more c.args.forms l.yielded c.in-Some.item l.steps.items c.in_ok-step-2.step l.invariant.so_far (search rules));
       count = (
           let was = l.invariant.count in
           let gone = c.in-Some.ensures.steps.1 in
@@ -45,5 +45,5 @@ returns-clause-ok c =
     let l = c.loop-item in
     let all = all_yielded l.yielded (into_iter_items l.item-iterator) c.args.items.items l.invariant.order
     (sym l.invariant.count ∙ c.in-None.ensures.steps.0) in
-    let read : SpellSteps c.args.items.items l.steps.items = rw all at l.invariant.so_far in
+    let read : SpellSteps c.args.forms c.args.items.items l.steps.items = rw all at l.invariant.so_far in
     record { trees = read.trees; steps = read.all }

@@ -7,6 +7,6 @@ use Rattle.dl_documents.proofs.plan_files.plan.Given as goal
 abbrev pub invariant-loop-item : goal.invariant-loop-item
 invariant-loop-item l = record {
   order : l.yielded ++ into_iter_items l.item-iterator ≡ l.fn.items.items;
-  so_far : SpellSteps l.yielded l.steps.items;
+  so_far : SpellSteps l.forms l.yielded l.steps.items;
   count : into_iter_len l.item-iterator ≡ length (into_iter_items l.item-iterator);
 }

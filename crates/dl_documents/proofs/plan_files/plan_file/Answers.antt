@@ -1,6 +1,7 @@
 use Rattle.std.proofs.Common.{rules, ◌≡◌, map, Err, inl, inr}
 use Rattle.dl_documents.specs.Inside.Top.{top_data}
 use Rattle.serde_json.specs.View.{view}
+use Rattle.dl_documents.specs.Document.{forms_of}
 use Rattle.dl_documents.specs.Steps.{plan_view}
 use Rattle.dl_documents.specs.Inside.PlanFiles.{rows_view, HasPlans, AreRead, AreRest}
 use Rattle.dl_documents.proofs.Order.{least_top}
@@ -23,13 +24,15 @@ returns-in_err-plans-clause-err c =
     rw same (elim c.in_err-plans.ensures.err [
       | inl memory ↦ inl memory
       | inr bad ↦ inr (least_shape (top_data c.args.top) c.args.head (rows_view c.in_ok-lists.lists.items) (view c.in_ok-lists.tables)
-          c.requires.kind c.requires.head top c.in_err-plans.field-0.0 bad)
+          c.requires.kind c.requires.head top c.in_err-plans.field-0.0 (rw c.requires.head.forms at bad))
     ])
 
 pub returns-in_err-tables-clause-err : goal.returns-in_err-tables-clause-err
 returns-in_err-tables-clause-err c =
     let top : HasPlans (top_data c.args.top) (rows_view c.in_ok-lists.lists.items) (view c.in_ok-lists.tables) = search rules in
-    let read : AreRead (rows_view c.in_ok-lists.lists.items) (map plan_view c.in_ok-plans.plans.items) = search rules in
+    let as_given : AreRead c.args.head.forms (rows_view c.in_ok-lists.lists.items) (map plan_view c.in_ok-plans.plans.items) = search rules in
+    let read : AreRead (forms_of (top_data c.args.top)) (rows_view c.in_ok-lists.lists.items) (map plan_view c.in_ok-plans.plans.items) =
+    rw c.requires.head.forms at as_given in
     let same : c.from_residual-in_err-tables.result ≡ Err c.in_err-tables.field-0.0 = search rules in
     rw same (elim c.in_err-tables.ensures.err [
       | inl memory ↦ inl memory
@@ -40,7 +43,9 @@ returns-in_err-tables-clause-err c =
 pub returns-clause-ok : goal.returns-clause-ok
 returns-clause-ok c =
     let top : HasPlans (top_data c.args.top) (rows_view c.in_ok-lists.lists.items) (view c.in_ok-lists.tables) = search rules in
-    let read : AreRead (rows_view c.in_ok-lists.lists.items) (map plan_view c.in_ok-plans.plans.items) = search rules in
+    let as_given : AreRead c.args.head.forms (rows_view c.in_ok-lists.lists.items) (map plan_view c.in_ok-plans.plans.items) = search rules in
+    let read : AreRead (forms_of (top_data c.args.top)) (rows_view c.in_ok-lists.lists.items) (map plan_view c.in_ok-plans.plans.items) =
+    rw c.requires.head.forms at as_given in
     let tables = c.in_ok-tables in
     let rest : AreRest (map plan_view c.in_ok-plans.plans.items) (view c.in_ok-lists.tables) c.args.head (tables.tables, tables.limits, tables.table_limits) =
     rw c.as_slice.ensures.value at c.in_ok-tables.ensures.ok in

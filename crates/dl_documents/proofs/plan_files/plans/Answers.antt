@@ -13,7 +13,7 @@ returns-in_err-plan-clause-err c =
     let same : c.from_residual.result ≡ Err c.in_err-plan.field-0.0 = search rules in
     rw same (elim c.in_err-plan.ensures.err [
       | inl memory ↦ inl memory
-      | inr bad ↦ inr (plans_stop l.yielded c.in-Some.list rest c.args.lists.items l.plans.items _ _ is (search rules) l.invariant.so_far bad)
+      | inr bad ↦ inr (plans_stop c.args.forms l.yielded c.in-Some.list rest c.args.lists.items l.plans.items _ _ is (search rules) l.invariant.so_far bad)
     ])
 
 pub loop-list-preserved : goal.loop-list-preserved
@@ -23,7 +23,7 @@ loop-list-preserved c =
     let pushed : c.push.new.self.items ≡ l.plans.items ++ c.in_ok-plan.plan ∷ [] = search rules in
     record {
       order = append_assoc l.yielded (c.in-Some.list ∷ []) _ ∙ rw (← steps) l.invariant.order;
-      so_far = rw pushed (plans_more l.yielded c.in-Some.list l.plans.items c.in_ok-plan.plan l.invariant.so_far (search rules));
+      so_far = rw pushed (plans_more c.args.forms l.yielded c.in-Some.list l.plans.items c.in_ok-plan.plan l.invariant.so_far (search rules));
       count = (
           let was = l.invariant.count in
           let gone = c.in-Some.ensures.steps.1 in
@@ -42,5 +42,5 @@ returns-clause-ok c =
     let l = c.loop-list in
     let all = all_yielded l.yielded (into_iter_items l.list-iterator) c.args.lists.items l.invariant.order
     (sym l.invariant.count ∙ c.in-None.ensures.steps.0) in
-    let read : SpellPlans c.args.lists.items l.plans.items = rw all at l.invariant.so_far in
+    let read : SpellPlans c.args.forms c.args.lists.items l.plans.items = rw all at l.invariant.so_far in
     record { trees = read.trees; steps = read.all }

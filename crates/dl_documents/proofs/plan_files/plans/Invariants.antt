@@ -7,6 +7,6 @@ use Rattle.dl_documents.proofs.plan_files.plans.Given as goal
 abbrev pub invariant-loop-list : goal.invariant-loop-list
 invariant-loop-list l = record {
   order : l.yielded ++ into_iter_items l.list-iterator ≡ l.fn.lists.items;
-  so_far : SpellPlans l.yielded l.plans.items;
+  so_far : SpellPlans l.forms l.yielded l.plans.items;
   count : into_iter_len l.list-iterator ≡ length (into_iter_items l.list-iterator);
 }

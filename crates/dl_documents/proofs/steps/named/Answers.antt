@@ -7,5 +7,5 @@ returns-in_err-prime-in-prime c = IfOk-from_err _ _ c.from_residual.ensures.0
 pub returns-in_err-key-in-clear : goal.returns-in_err-key-in-clear
 returns-in_err-key-in-clear c = IfOk-from_err _ _ c.from_residual-in_err-key-in-clear.ensures.0
 
-pub returns-in_err-read_term-in-eval : goal.returns-in_err-read_term-in-eval
-returns-in_err-read_term-in-eval c = IfOk-from_err _ _ c.from_residual-in_err-read_term-in-eval.ensures.0
+pub returns-in_err-eval-in-eval : goal.returns-in_err-eval-in-eval
+returns-in_err-eval-in-eval c = IfOk-from_err _ _ c.from_residual-in_err-eval-in-eval.ensures.0

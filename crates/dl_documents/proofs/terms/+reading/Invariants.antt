@@ -25,13 +25,22 @@ decreases-each l = 4 * depth (tree_data l.argument) + 2
 abbrev pub decreases-all : goal.decreases-all
 decreases-all l = 4 * depth (tree_data l.argument) + 2
 
+abbrev pub decreases-over : goal.decreases-over
+decreases-over l = 4 * depth (tree_data l.argument) + 2
+
+abbrev pub decreases-object : goal.decreases-object
+decreases-object l = 4 * depth (tree_data l.argument) + 2
+
+abbrev pub decreases-read_parts : goal.decreases-read_parts
+decreases-read_parts l = 4 * items_depth (list_data l.trees.items) + 1
+
 abbrev pub decreases-read_part : goal.decreases-read_part
 decreases-read_part l = 4 * depth (tree_data l.tree) + 1
 
-abbrev pub invariant-all-loop-item : goal.invariant-all-loop-item
-invariant-all-loop-item l = record {
-  read : option_map (λ ts. map term_view l.parts.items ++ ts) (together (parts_of (list_data (into_iter_items l.item-iterator))))
-      ≡ together (parts_of (list_data (into_iter_items l.initial.item-iterator)));
-  low : items_depth (list_data (into_iter_items l.item-iterator)) ≤ items_depth (list_data (into_iter_items l.initial.item-iterator));
-  count : into_iter_len l.item-iterator ≡ length (into_iter_items l.item-iterator);
+abbrev pub invariant-read_parts-loop-tree : goal.invariant-read_parts-loop-tree
+invariant-read_parts-loop-tree l = record {
+  read : option_map (λ ts. map term_view l.parts.items ++ ts) (together (parts_of (list_data (into_iter_items l.tree-iterator))))
+      ≡ together (parts_of (list_data (into_iter_items l.initial.tree-iterator)));
+  low : items_depth (list_data (into_iter_items l.tree-iterator)) ≤ items_depth (list_data (into_iter_items l.initial.tree-iterator));
+  count : into_iter_len l.tree-iterator ≡ length (into_iter_items l.tree-iterator);
 }

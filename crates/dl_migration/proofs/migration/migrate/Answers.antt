@@ -1,8 +1,8 @@
-use Rattle.std.proofs.Common.{rules}
+use Rattle.std.proofs.Common.{rules, subst, sym}
 use Rattle.std.proofs.lemmas.Str.{IsUtf8-string_bytes}
 use Rattle.serde_json.specs.View.{view}
-use Rattle.dl_migration.specs.Migration.{ReadsAs, IsFirst}
-use Rattle.dl_migration.proofs.Migrations.{is_migrated}
+use Rattle.dl_migration.specs.Migration.{IsEarlier, IsOther, IsUnmigrated, ReadsAs}
+use Rattle.dl_migration.proofs.Migrations.{is_late, is_migrated}
 use Rattle.dl_migration.proofs.migration.migrate.Goals as goal
 
 pub returns-clause-ok : goal.returns-clause-ok
@@ -10,5 +10,5 @@ returns-clause-ok c =
     let document = c.in_ok-document in
     let reads : ReadsAs c.args.bytes.now (view document.document) document.said =
     record { text = document.ensures.ok.0; spelled = document.ensures.ok.1; passes = document.ensures.passes } in
-    let first : IsFirst document.said = search rules in
-    is_migrated _ _ _ _ reads first (IsUtf8-string_bytes c.in_ok-text.text) c.in_ok-text.ensures.text c.in_ok-text.ensures.again
+    let earlier : IsEarlier c.args.target (view document.document) document.said = search rules in
+    is_migrated _ _ _ _ _ reads earlier (IsUtf8-string_bytes c.in_ok-text.text) c.in_ok-text.ensures.text c.in_ok-text.ensures.again

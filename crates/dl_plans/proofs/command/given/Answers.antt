@@ -22,9 +22,6 @@ returns c =
       trace = c.in_ok-copied-2.ensures ∙ (c.get_str-3.ensures ∙ first_value-rows found (codes "trace"));
       database = c.in_ok-database.ensures ∙ (c.get_str.ensures ∙ first_value-rows found (codes "database"));
       unread = refl;
-      migrate = (
-        λ is. name_used c.args.matches.now ∙ c.subcommand_matches.ensures.found.0 (sym c.is_some.ensures ∙ is),
-        λ named. c.is_some.ensures ∙ c.subcommand_matches.ensures.found.1 (sym (name_used c.args.matches.now) ∙ named),
-      );
+      migrate = c.migration.ensures;
       history = c.in_ok-copied-3.ensures ∙ (c.get_str-4.ensures ∙ first_value-rows found (codes "history"));
     }

@@ -1,4 +1,4 @@
-use Rattle.dl_migration.proofs.SecondVersion as law
+use Rattle.dl_migration.proofs.LaterVersion as law
 use Rattle.dl_plans.proofs.laws.migrated_is_the_same.Goals as goal
 
 pub returns : goal.returns

@@ -8,16 +8,16 @@ use Rattle.indexmap.specs.IndexSet.{insert_all}
 use Rattle.dl_values.specs.Key.{key_eq}
 use Rattle.dl_terms.specs.declared.node.Frame.{Frame}
 use Rattle.dl_terms.specs.declared.node.Node.{Node}
-use Rattle.dl_terms.specs.Tree.{all, ended}
-use Rattle.dl_terms.specs.TermAnswers.{outcome_in, answer, answers, gathered, waits, all_wait}
-use Rattle.dl_terms.specs.Node.{framed, node_view, nodes_view, over, result_of, results_of}
+use Rattle.dl_terms.specs.Tree.{ended}
+use Rattle.dl_terms.specs.TermAnswers.{outcome_in, answer, joined, waits, all_wait}
+use Rattle.dl_terms.specs.Node.{framed, in_frame, joint_of, joined_tree, node_view, nodes_view, result_of, results_of}
 use Rattle.dl_terms.specs.Asked.{known_of, wanted_of}
 use Rattle.dl_terms.specs.Reduction.{MeansSame, Reduces}
 use Rattle.dl_terms.specs.Inside.Exploration.{Becomes}
 use Rattle.dl_terms.proofs.Views.{node_view-Chain, node_view-Done}
-use Rattle.dl_terms.proofs.PartAnswers.{all_ended, gathers_none, gathers_some}
+use Rattle.dl_terms.proofs.PartAnswers.{all_ended, joins_none, joins_some}
 use Rattle.dl_terms.proofs.Frames.{means_framed, settles, still_means, part_waits, part_wants}
-use Rattle.dl_terms.proofs.Reductions.{chain_left, gathers_on, nodes_reduce, result_is, zip_next, wanted_next}
+use Rattle.dl_terms.proofs.Reductions.{chain_left, parts_reduce, parts_want, nodes_reduce, result_is, zip_next, wanted_next}
 use Rattle.dl_terms.proofs.exploration.+exploring.Goals as goal
 
 pub explore_all-loop-place-preserved : goal.explore_all-loop-place-preserved
@@ -101,15 +101,15 @@ climb-loop-answer-preserved t c =
     let went = c.in_ok-next.ensures in
     let is : part ≡ ended a = result_is part a (sym c.in-Some.ensures.answer) in
     let same : left ≡ next = ap node_view c.replace-in-Some.ensures.after in
-    let goes : Reduces p (over f (ended a)) next = subst (λ ps. Reduces (outcome_in ps) (over f (ended a)) next) h.pairs went.reduces in
+    let goes : Reduces p (in_frame f (ended a)) next = subst (λ ps. Reduces (outcome_in ps) (in_frame f (ended a)) next) h.pairs went.reduces in
     let none : wanted_of c.loop-answer.asked ≡ keys = h.wanted ∙ ap (λ u. insert_all key_eq keys (waits p u)) is in
     record {
       pairs = went.pairs ∙ h.pairs;
       means = subst (λ u. MeansSame p whole (framed c.pop.new.self.items u)) (sym same)
           (still_means p whole c.loop-answer.frames.items c.pop.new.self.items f part next a c.in-Some-pop.ensures.items is goes h.means);
-      settled = subst (λ u. result_of u ≡ answer p u) (sym same) (settles p (over f (ended a)) next goes);
-      wanted = went.wanted ∙ (ap (λ ps. insert_all key_eq (wanted_of c.loop-answer.asked) (waits (outcome_in ps) (over f (ended a)))) h.pairs
-          ∙ (ap (λ ks. insert_all key_eq ks (waits p (over f (ended a)))) none
+      settled = subst (λ u. result_of u ≡ answer p u) (sym same) (settles p (in_frame f (ended a)) next goes);
+      wanted = went.wanted ∙ (ap (λ ps. insert_all key_eq (wanted_of c.loop-answer.asked) (waits (outcome_in ps) (in_frame f (ended a)))) h.pairs
+          ∙ (ap (λ ks. insert_all key_eq ks (waits p (in_frame f (ended a)))) none
           ∙ (ap (insert_all key_eq keys) (sym (goes.waiting p (λ k o known. known))) ∙ ap (λ u. insert_all key_eq keys (waits p u)) (sym same))));
     }
 
@@ -144,30 +144,40 @@ explore_inside-returns-in-Chain-clause-becomes t c =
     chain_left (known_of c.args.asked.now) e.result c.args.node.now _ b.part.value _ e.new.part b.frames.items e.new.frames.items same explored
     (ap node_view b.is ∙ node_view-Chain b.part b.frames) (rw b.is (node_view-Chain (record b.part { value = e.new.part }) e.new.frames))
 
-pub explore_list-returns-then-not-have_ended-clause-becomes : goal.explore_list-returns-then-not-have_ended-clause-becomes
-explore_list-returns-then-not-have_ended-clause-becomes t c =
-    let before = nodes_view c.args.parts.now.items in
+pub explore_parts-returns-then-not-have_ended-clause-becomes : goal.explore_parts-returns-then-not-have_ended-clause-becomes
+explore_parts-returns-then-not-have_ended-clause-becomes t c =
     let items = c.explore_all.new.parts.items in
     let parts = nodes_view items in
+    let j = joint_of c.args.by.now in
     let fails : c.have_ended.result ≡ false = search rules in
     let none : is_some (results_of parts) ≡ false = sym (all_ended items) ∙ (ap (list_all (λ n. is_some (result_of (node_view n)))) (sym c.as_slice.ensures.value)
     ∙ (sym c.have_ended.ensures ∙ fails)) in
-    gathers_on (known_of c.args.asked.now) (λ q. answers q before) (λ q. all_wait q before) parts (all parts) c.in_ok-explore_all.ensures.reduce
-    (gathers_none parts (all parts) none refl)
+    parts_reduce (known_of c.args.asked.now) j (nodes_view c.args.parts.now.items) parts (joined_tree j parts) c.in_ok-explore_all.ensures.reduce
+    (joins_none j parts (joined_tree j parts) none refl)
 
-pub explore_list-answer_all-requires : goal.explore_list-answer_all-requires
-explore_list-answer_all-requires t c =
+pub explore_parts-answer_all-requires : goal.explore_parts-answer_all-requires
+explore_parts-answer_all-requires t c =
     let items = c.explore_all.new.parts.items in
     let holds : c.have_ended.result ≡ true = search rules in
     subst (λ (v : Vec Node Global). IsSome (results_of (nodes_view v.items))) (sym c.replace-parts.ensures.value)
     (sym (all_ended items) ∙ (ap (list_all (λ n. is_some (result_of (node_view n)))) (sym c.as_slice.ensures.value) ∙ (sym c.have_ended.ensures ∙ holds)))
 
-pub explore_list-returns-clause-becomes : goal.explore_list-returns-clause-becomes
-explore_list-returns-clause-becomes t c =
-    let before = nodes_view c.args.parts.now.items in
+pub explore_parts-returns-clause-becomes : goal.explore_parts-returns-clause-becomes
+explore_parts-returns-clause-becomes t c =
     let parts = nodes_view c.explore_all.new.parts.items in
+    let j = joint_of c.args.by.now in
     let a = c.in_ok-answer_all.field-0 in
-    let together : option_map gathered (results_of parts) ≡ Some a =
-    ap (λ (v : Vec Node Global). option_map gathered (results_of (nodes_view v.items))) (sym c.replace-parts.ensures.value) ∙ c.in_ok-answer_all.ensures in
-    gathers_on (known_of c.args.asked.now) (λ q. answers q before) (λ q. all_wait q before) parts _ c.in_ok-explore_all.ensures.reduce
-    (gathers_some parts _ a together (node_view-Done a))
+    let together : option_map (joined j) (results_of parts) ≡ Some a =
+    ap (λ (v : Vec Node Global). option_map (joined j) (results_of (nodes_view v.items))) (sym c.replace-parts.ensures.value) ∙ c.in_ok-answer_all.ensures in
+    parts_reduce (known_of c.args.asked.now) j (nodes_view c.args.parts.now.items) parts _ c.in_ok-explore_all.ensures.reduce
+    (joins_some j parts _ a together (node_view-Done a))
+
+pub explore_parts-returns-then-not-have_ended-clause-wanted : goal.explore_parts-returns-then-not-have_ended-clause-wanted
+explore_parts-returns-then-not-have_ended-clause-wanted t c =
+    c.in_ok-explore_all.ensures.wanted
+    ∙ parts_want (known_of c.args.asked.now) (joint_of c.args.by.now) (nodes_view c.args.parts.now.items) (wanted_of c.args.asked.now)
+
+pub explore_parts-returns-clause-wanted : goal.explore_parts-returns-clause-wanted
+explore_parts-returns-clause-wanted t c =
+    c.in_ok-explore_all.ensures.wanted
+    ∙ parts_want (known_of c.args.asked.now) (joint_of c.args.by.now) (nodes_view c.args.parts.now.items) (wanted_of c.args.asked.now)

@@ -1,23 +1,19 @@
-use Rattle.std.proofs.Common.{◌≡◌, ◌+◌, ℕ}
-use Rattle.std.specs.Prelude.{option_and_then, option_map}
+use Rattle.std.proofs.Common.{refl}
 use Rattle.dl_terms.specs.TermAnswers.{picked, target_answer, target_in}
-use Rattle.dl_terms.specs.declared.answer.Answer.{Answer}
-use Rattle.dl_picture.specs.Asking.{Asks, known_of}
-use Rattle.dl_picture.specs.TermLoads.{loads_after, target_loads}
-use Rattle.dl_picture.specs.declared.asking.Asking.{Asking}
-use Rattle.dl_picture.proofs.PartAnswers.{after_pick, asked_both, if_ok}
+use Rattle.dl_picture.specs.Asking.{known_of}
+use Rattle.dl_picture.specs.TermLoads.{target_loads}
+use Rattle.dl_picture.proofs.PartAnswers.{after_none, after_value, if_ok}
 use Rattle.dl_picture.proofs.knowledge.Knowledge.follow.Goals as goal
 
-pub returns : goal.returns
-returns c = λ n a asks.
+pub returns-in-Err : goal.returns-in-Err
+returns-in-Err c = after_none c.args.part c.in-Err.part _ _ c.in-Err.ensures.0 c.in-Err.ensures.1 (λ f. refl) (λ f. refl)
+
+pub returns-in_ok-next-in-Ok : goal.returns-in_ok-next-in-Ok
+returns-in_ok-next-in-Ok c =
     let known = known_of c.args.self.now in
     let table = c.args.table.now in
     let field = c.args.field.now in
-    let loads : Answer → ℕ = λ b. target_loads (target_in table b) in
-    let one = c.args.part in
-    let next = c.in_ok-next.next in
-    let second = after_pick field a loads (λ b. target_answer known (target_in table b)) next (c.in_ok-next.ensures (option_map (picked field) a) (c.pick.ensures a asks.part)) in
-    if_ok c.and_then.result (λ (x : Asking). (x.loads ≡ one.loads + next.loads) × (x.part ≡ next.part))
-    (Asks (n + loads_after a (λ b. loads (picked field b))) (option_and_then (λ b. target_answer known (target_in table (picked field b))) a))
-    (λ x both. asked_both n (loads_after a (λ b. loads (picked field b))) (option_and_then (λ b. target_answer known (target_in table (picked field b))) a)
-    one next x asks.loads second both.0 both.1) c.and_then.ensures
+    if_ok c.after.result _ _
+    (λ x asks. after_value c.args.part c.in_ok-next-in-Ok.next x c.in-Ok.loads c.in-Ok.value (λ a. target_loads (target_in table (picked field a)))
+    (λ a. target_answer known (target_in table (picked field a))) c.in-Ok.ensures c.in_ok-next-in-Ok.ensures asks)
+    c.after.ensures

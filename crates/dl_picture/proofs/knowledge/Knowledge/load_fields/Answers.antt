@@ -1,26 +1,16 @@
-use Rattle.std.proofs.Common.{subst, refl}
-use Rattle.serde_json.specs.Find.{as_array}
-use Rattle.serde_json.specs.View.{view}
-use Rattle.dl_terms.specs.TermAnswers.{list_targets, targets_answer, targets_in}
-use Rattle.dl_terms.specs.declared.answer.Answer.TheVariants.{Value}
-use Rattle.dl_picture.specs.Asking.{Asks, AsksAfter, IsPicked, known_of}
+use Rattle.std.proofs.Common.{subst}
+use Rattle.std.specs.Prelude.{IfOk}
+use Rattle.dl_terms.specs.TermAnswers.{field_or, targets_answer, targets_in}
+use Rattle.dl_picture.specs.Asking.{Asks, known_of}
 use Rattle.dl_picture.specs.TermLoads.{targets_loads}
-use Rattle.dl_picture.proofs.PartAnswers.{after_none, after_value, if_ok}
 use Rattle.dl_picture.proofs.knowledge.Knowledge.load_fields.Goals as goal
 
-pub returns-in-Ok : goal.returns-in-Ok
-returns-in-Ok c = λ a is.
-    let known = known_of c.args.self.now in
-    let table = c.args.table.now in
-    let d = view c.in-Ok.ids.now in
-    if_ok c.load_list.result (Asks (targets_loads (list_targets table (as_array d))) (targets_answer known (list_targets table (as_array d))))
-    (AsksAfter a (λ b. targets_loads (targets_in table b)) (λ b. targets_answer known (targets_in table b)))
-    (λ x asks. after_value a (Value d) (λ b. targets_loads (targets_in table b)) (λ b. targets_answer known (targets_in table b)) x
-    (subst (IsPicked a) c.in-Ok.is is) asks) c.load_list.ensures
+pub returns-in-None : goal.returns-in-None
+returns-in-None c =
+    subst (λ o. Asks (targets_loads (targets_in c.args.table.now (field_or o)))
+    (targets_answer (known_of c.args.self.now) (targets_in c.args.table.now (field_or o))) c.of.result) c.in-None.ensures.member c.of.ensures
 
-pub returns-in-Err : goal.returns-in-Err
-returns-in-Err c = λ a is.
-    let known = known_of c.args.self.now in
-    let table = c.args.table.now in
-    let p = subst (IsPicked a) c.in-Err.is is in
-    after_none a (λ b. targets_loads (targets_in table b)) (λ b. targets_answer known (targets_in table b)) c.in-Err.part _ p.0 p.1 (λ f. refl) (λ f. refl) refl refl
+pub returns-in-Some : goal.returns-in-Some
+returns-in-Some c =
+    subst (λ o. IfOk c.load_list.result (Asks (targets_loads (targets_in c.args.table.now (field_or o)))
+    (targets_answer (known_of c.args.self.now) (targets_in c.args.table.now (field_or o))))) c.in-Some.ensures.member c.load_list.ensures

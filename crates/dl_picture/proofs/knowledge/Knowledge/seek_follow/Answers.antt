@@ -1,20 +1,16 @@
-use Rattle.std.proofs.Common.{◌≡◌, ◌∙◌, Some, ap, sym}
-use Rattle.serde_json.specs.Find.{get}
-use Rattle.serde_json.specs.View.{view}
-use Rattle.dl_terms.specs.TermAnswers.{target_answer, value_target}
-use Rattle.dl_terms.specs.View.{term_view}
-use Rattle.dl_terms.specs.declared.answer.Answer.TheVariants.{Fault}
+use Rattle.std.proofs.Common.{subst}
 use Rattle.dl_picture.specs.Asking.{known_of}
-use Rattle.dl_picture.proofs.FaultOrigins.{follow_fails, own_is}
+use Rattle.dl_picture.specs.Seeking.{EndsInside}
+use Rattle.dl_picture.proofs.FaultOrigins.{over_follow}
 use Rattle.dl_picture.proofs.knowledge.Knowledge.seek_follow.Goals as goal
 
-pub returns : goal.returns
-returns c = λ q has is.
+pub returns-in-Ok : goal.returns-in-Ok
+returns-in-Ok c = λ t q whose is ends.
     let known = known_of c.args.self.now in
-    let id = view c.in-Some.id.now in
-    let o = c.own.result in
-    let found : get c.args.field.now c.args.value ≡ Some id = ap (λ n. get n c.args.value) (sym c.as_str.ensures) ∙ sym c.in-Some.ensures.member in
-    let fails : target_answer known (value_target c.args.table.now id) ≡ Some (Fault o.fault) =
-    sym c.in_ok-answer_of_id-in-Some.ensures ∙ (c.in-Some-Fault.is ∙ (ap Some c.in-Some-Fault.field-0-is ∙ ap (λ f. Some (Fault f)) (sym c.own.ensures.fault))) in
-    follow_fails known (term_view c.args.term.now) q c.args.field.now c.args.table.now c.args.value id c.in_ok-clone-in-Some-Fault.field-0 o
-    (own_is c.args.term.now o c.own.ensures.part c.own.ensures.path) has is found fails c.in_ok-clone-in-Some-Fault.ensures.cases c.own.ensures.met
+    let has = subst (EndsInside known t q) c.in-Ok.is (c.in_ok-value.ensures t q whose (over_follow known t q c.args.field.now c.args.table.now is) ends) in
+    c.follow_of.ensures t q has whose is
+
+pub returns-in-Err : goal.returns-in-Err
+returns-in-Err c = λ t q whose is ends.
+    let known = known_of c.args.self.now in
+    subst (EndsInside known t q) c.in-Err.is (c.in_ok-value.ensures t q whose (over_follow known t q c.args.field.now c.args.table.now is) ends)

@@ -1,7 +1,7 @@
 use Rattle.std.proofs.Common.{◌≡◌, None, ap, subst}
 use Rattle.std.specs.Prelude.{IfNone, IfSome, option_map}
 use Rattle.serde_json.specs.View.{items_view}
-use Rattle.dl_terms.specs.TermAnswers.{gathered, item_targets, target_answers}
+use Rattle.dl_terms.specs.TermAnswers.{gathered, item_targets, listing, target_answers}
 use Rattle.dl_picture.specs.Asking.{known_of}
 use Rattle.dl_picture.specs.Seeking.{AreItems, Gathers}
 use Rattle.dl_picture.proofs.FaultOrigins.{fails_first, ids_values}
@@ -21,7 +21,7 @@ returns-in-Ok c =
     let ids = c.args.ids.now in
     let es = c.in-Some.rows.items in
     let are : AreItems known term table 0 ids es = subst (λ o. IfSome o (λ v. AreItems known term table 0 ids v.items)) c.in-Some.is c.in_ok-rows_of.ensures.rows in
-    let g = subst (Gathers es) c.in-Ok.is c.in_ok-values-in-Some.ensures in
+    let g = subst (Gathers listing es) c.in-Ok.is c.in_ok-values-in-Some.ensures in
     ids_values known term table ids es g.0 c.in-Ok.values are g.1 g.2
 
 pub returns-in-Err : goal.returns-in-Err
@@ -32,5 +32,5 @@ returns-in-Err c =
     let ids = c.args.ids.now in
     let es = c.in-Some.rows.items in
     let are : AreItems known term table 0 ids es = subst (λ o. IfSome o (λ v. AreItems known term table 0 ids v.items)) c.in-Some.is c.in_ok-rows_of.ensures.rows in
-    let g = subst (Gathers es) c.in-Err.is c.in_ok-values-in-Some.ensures in
+    let g = subst (Gathers listing es) c.in-Err.is c.in_ok-values-in-Some.ensures in
     fails_first known term table ids es g.0 c.in-Err.origin g.1 are g.2

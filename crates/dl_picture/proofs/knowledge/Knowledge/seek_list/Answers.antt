@@ -2,7 +2,6 @@ use Rattle.std.proofs.Common.{subst, arith}
 use Rattle.std.specs.Prelude.{IfOk}
 use Rattle.serde_json.specs.Find.{as_array}
 use Rattle.serde_json.specs.View.{view}
-use Rattle.dl_terms.specs.View.{term_view}
 use Rattle.dl_terms.specs.declared.answer.EvalFault.TheVariants as why
 use Rattle.dl_terms.proofs.Reductions.{not_many, too_many}
 use Rattle.dl_picture.specs.Asking.{known_of}
@@ -13,23 +12,23 @@ use Rattle.dl_picture.proofs.PartAnswers.{if_ok}
 use Rattle.dl_picture.proofs.knowledge.Knowledge.seek_list.Goals as goal
 
 pub returns-then-len-gt-MOST_ITEMS : goal.returns-then-len-gt-MOST_ITEMS
-returns-then-len-gt-MOST_ITEMS c = λ q d field has found is.
+returns-then-len-gt-MOST_ITEMS c = λ t q d field has found whose is.
     let table = c.args.table.now in
     let ids = view c.args.ids.now in
     let o = c.in_ok-no_ids-in-Some.field-0 in
     let says = c.in_ok-no_ids-in-Some.ensures in
-    each_no_ids (known_of c.args.self.now) (term_view c.args.term.now) q field table d ids says.met.0 why.TooMany o (own_is c.args.term.now o says.part says.path) has is found
+    each_no_ids (known_of c.args.self.now) t q field table d ids says.met.0 why.TooMany o (own_is t c.args.term.now o whose says.part says.path) has is found
     (too_many table (as_array ids) c.in-Some.list.now.items c.in-Some.ensures (omega (arith, c.len.ensures, c.in-Some.list.now.ok.0, c.if-len-gt-MOST_ITEMS.true)))
     says.fault says.met.1 says.met.2
 
 pub returns-else-len-gt-MOST_ITEMS : goal.returns-else-len-gt-MOST_ITEMS
-returns-else-len-gt-MOST_ITEMS c = λ q d field has found is.
+returns-else-len-gt-MOST_ITEMS c = λ t q d field has found whose is.
     let known = known_of c.args.self.now in
     let term = c.args.term.now in
     let table = c.args.table.now in
     let ids = view c.args.ids.now in
     let list = c.in-Some.list.now.items in
-    if_ok c.seek_ids.result (AreTogether known term table list) (MayEndWith known (term_view term))
-    (λ ending h. each_together known term q field table d ids list ending has is found c.in-Some.ensures
+    if_ok c.seek_ids.result (AreTogether known term table list) (MayEndWith known t)
+    (λ ending h. each_together known t term q field table d ids list ending whose has is found c.in-Some.ensures
     (not_many table (as_array ids) list c.in-Some.ensures (omega (arith, c.len.ensures, c.in-Some.list.now.ok.0, c.if-len-gt-MOST_ITEMS.false))) h)
     (subst (λ vs. IfOk c.seek_ids.result (AreTogether known term table vs)) c.as_slice.ensures.value c.seek_ids.ensures)

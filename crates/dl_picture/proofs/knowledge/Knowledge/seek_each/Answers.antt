@@ -1,0 +1,16 @@
+use Rattle.std.proofs.Common.{subst}
+use Rattle.dl_picture.specs.Asking.{known_of}
+use Rattle.dl_picture.specs.Seeking.{EndsInside}
+use Rattle.dl_picture.proofs.FaultOrigins.{over_each}
+use Rattle.dl_picture.proofs.knowledge.Knowledge.seek_each.Goals as goal
+
+pub returns-in-Ok : goal.returns-in-Ok
+returns-in-Ok c = λ t q whose is ends.
+    let known = known_of c.args.self.now in
+    let has = subst (EndsInside known t q) c.in-Ok.is (c.in_ok-value.ensures t q whose (over_each known t q c.args.field.now c.args.table.now is) ends) in
+    c.each_of.ensures t q has whose is
+
+pub returns-in-Err : goal.returns-in-Err
+returns-in-Err c = λ t q whose is ends.
+    let known = known_of c.args.self.now in
+    subst (EndsInside known t q) c.in-Err.is (c.in_ok-value.ensures t q whose (over_each known t q c.args.field.now c.args.table.now is) ends)

@@ -1,7 +1,0 @@
--- The copies so far are those of the terms so far.
-use Rattle.std.proofs.Common.{◌≡◌, map, take}
-use Rattle.dl_terms.specs.View.{term_view}
-use Rattle.dl_picture.proofs.terms.+copying.Given as goal
-
-abbrev pub invariant-copies_of-loop-term : goal.invariant-copies_of-loop-term
-invariant-copies_of-loop-term l = map term_view l.copies.items ≡ map term_view (take l.term-index l.terms)
