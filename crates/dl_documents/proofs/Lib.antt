@@ -27,4 +27,5 @@ pub mod ScriptVerdicts
 pub mod PlanVerdicts
 pub mod PlanSpelling
 pub mod OneReading
+pub mod LaterForms
 pub mod Texts

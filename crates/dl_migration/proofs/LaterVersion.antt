@@ -1,31 +1,24 @@
 -- A tree that spells a plan file of an earlier version, migrated, spells the same file in the later one.
-use Rattle.std.proofs.Common.{◌≡◌, ◌∙◌, sym, ap, subst, refl, inl, inr, ℕ, zero, suc, ℤ, pos, ◌<◌, ◌≤◌, List, [], ◌∷◌, length, map, Bool, true, false, not, ◌&&◌, codes}
+use Rattle.std.proofs.Common.{◌≡◌, ◌∙◌, sym, ap, refl, inl, inr, ℕ, pos, ◌<◌, ◌≤◌, List, [], length, map, Bool, true, false, codes}
 use Rattle.std.proofs.Common.{bytes_eq, is_some, if◌then◌else◌, Option, Some, None, option_and_then, true≢false, arith}
-use Rattle.std.proofs.lemmas.Bool.{and_parts, and_from}
 use Rattle.std.proofs.lemmas.Option.{none-some, same_Some}
 use Rattle.std.proofs.lemmas.Slice.Eq.{bytes_eq-Decides}
 use Rattle.std.specs.List.{AllByRecursion}
-use Rattle.std.specs.Option.{option_map_or}
-use Rattle.std.specs.Ordering.{int_eq}
 use Rattle.serde_json.specs.Data.{Data, null, boolean, number, unsigned, negative, float, string, array, object, Members}
 use Rattle.serde_json.specs.Find.{get, as_array, as_integer, as_number, as_object, as_u64}
 use Rattle.dl_source.specs.Spelling.{has_only, whole}
-use Rattle.dl_documents.specs.Document.{is_script, is_known, is_plans_member, has_only_known, version_name, whole_or_largest}
-use Rattle.dl_documents.specs.Document.{IsOfVersion, GivesLimit, GivesTables, SpellsPlans, forms_of, has_number, version_number}
+use Rattle.dl_documents.specs.Document.{is_script, is_known, is_plans_member, has_only_known, whole_or_largest}
+use Rattle.dl_documents.specs.Document.{IsOfVersion, GivesLimit, GivesTables, SpellsPlans, forms_of, version_number}
 use Rattle.dl_documents.specs.Document.{IsTextOf}
 use Rattle.dl_documents.specs.Faults.{most_bytes}
 use Rattle.dl_documents.specs.OwnLimits.{TableLimits, own, version_by}
-use Rattle.dl_documents.specs.Steps.{StepTree, prime, clear, clear_all, eval, IsPlan, IsPlanStep, plan_view}
-use Rattle.dl_documents.specs.Terms.{has_forms, have_forms}
-use Rattle.dl_documents.specs.declared.forms.Forms.{Forms}
-use Rattle.dl_documents.specs.declared.forms.Forms.TheVariants.{Six, Nine}
-use Rattle.dl_documents.specs.declared.head.Version.TheVariants as version
+use Rattle.dl_documents.specs.Steps.{StepTree, IsPlan, plan_view}
 use Rattle.dl_documents.specs.declared.input.Input.{Input}
 use Rattle.dl_documents.specs.declared.input.Input.TheVariants.{Script, Plans}
 use Rattle.dl_documents.specs.declared.input.PlanFile.{PlanFile}
+use Rattle.dl_documents.proofs.LaterForms.{plans_in_second, plans_in_third}
 use Rattle.dl_documents.proofs.Texts.{passes}
 use Rattle.dl_source.specs.Tables.{Tables}
-use Rattle.dl_terms.specs.Tree.{Tree, ended, load, pick, follow, each, all, over, the_item, named, Trees, no_trees, tree}
 use Rattle.dl_migration.specs.Migrated.{migrated, number_of}
 use Rattle.dl_migration.specs.Migration.{IsEarlier, ReadsAs, version_in}
 use Rattle.dl_migration.specs.declared.target.Target.{Target}
@@ -52,21 +45,7 @@ has_only-migrated n test (string s) mine all = all
 has_only-migrated n test (array ds) mine all = all
 has_only-migrated n test (object ms) mine all = names_all-put test (codes "version") (number (unsigned n)) ms mine all
 
-and_no : (b : Bool) → (b && false) ≡ false
-and_no true = refl
-and_no false = refl
-
 -- ---- the number of a version
-
-int_three : (n : ℕ) → n < 3 → int_eq (pos 3) (pos n) ≡ false
-int_three zero low = refl
-int_three (suc zero) low = refl
-int_three (suc (suc zero)) low = refl
-int_three (suc (suc (suc n))) low = absurd (omega arith)
-
-not_three : (target : Target) (n : ℕ) → n < number_of target → int_eq (pos 3) (pos n) ≡ false
-not_three Second n low = int_three n (omega arith)
-not_three Third n low = int_three n low
 
 whole_of : (v : Data) (n : ℕ) → option_and_then as_u64 (as_number v) ≡ Some n → option_and_then as_integer (as_number v) ≡ Some (pos n)
 whole_of null n is = absurd (none-some n is)
@@ -85,60 +64,19 @@ whole_in (Some v) n is = whole_of v n is
 numbered : (d : Data) (n : ℕ) → is_script d ≡ false → option_and_then whole (get (codes "version") d) ≡ Some (pos n) → version_number d ≡ Some (pos n)
 numbered d n kind is = ap (λ (b : Bool). option_and_then whole (get (if b then codes "script" else codes "version") d)) kind ∙ is
 
-of_version : (target : Target) (d : Data) → is_script d ≡ false → version_number d ≡ Some (pos (number_of target)) → IsOfVersion d version.Second
-of_version Second d kind is = inl is
-of_version Third d kind is = inr (kind, is)
+of_version : (target : Target) (d : Data) (tables : TableLimits) → is_script d ≡ false → version_number d ≡ Some (pos (number_of target))
+    → IsOfVersion d (version_by (Some tables))
+of_version Second d tables kind is = inl is
+of_version Third d tables kind is = inr (kind, is)
 
--- ---- the forms of a version
+-- ---- plans
 
--- before version 3 there are six forms of terms
-six : (d : Data) (n : ℕ) → version_number d ≡ Some (pos n) → int_eq (pos 3) (pos n) ≡ false → forms_of d ≡ Six
-six d n is other =
-    let third : has_number 3 d ≡ false = ap (λ (o : Option ℤ). option_map_or (int_eq (pos 3)) o false) is ∙ other in
-    ap (λ (b : Bool). if b then Nine 0 else Six) (ap (λ (b : Bool). not (is_script d) && b) third ∙ and_no (not (is_script d)))
-
-nine : (d : Data) → is_script d ≡ false → version_number d ≡ Some (pos 3) → forms_of d ≡ Nine 0
-nine d kind is =
-    let third : has_number 3 d ≡ true = ap (λ (o : Option ℤ). option_map_or (int_eq (pos 3)) o false) is in
-    ap (λ (b : Bool). if b then Nine 0 else Six) (ap (λ (b : Bool). not b && has_number 3 d) kind ∙ third)
-
-mutual
-  more_term : (t : Tree) → has_forms Six t ≡ true → has_forms (Nine 0) t ≡ true
-  more_term (ended a) has = has
-  more_term (load k) has = has
-  more_term (pick t field) has = more_term t has
-  more_term (follow t field table) has = more_term t has
-  more_term (each t field table) has = more_term t has
-  more_term (all ts) has = more_terms ts has
-  more_term (over t body) has = absurd (true≢false (sym has))
-  more_term the_item has = absurd (true≢false (sym has))
-  more_term (named names ts) has = absurd (true≢false (sym has))
-
-  more_terms : (ts : Trees) → have_forms Six ts ≡ true → have_forms (Nine 0) ts ≡ true
-  more_terms no_trees have = have
-  more_terms (tree t ts) have =
-      let p = and_parts (has_forms Six t) (have_forms Six ts) have in
-      and_from (has_forms (Nine 0) t) (have_forms (Nine 0) ts) (more_term t p.0) (more_terms ts p.1)
-
-more_step : (s : StepTree) → IsPlanStep Six s → IsPlanStep (Nine 0) s
-more_step (prime k o) is = is
-more_step (clear k) is = is
-more_step clear_all is = is
-more_step (eval t) is = (is.0, more_term t is.1)
-
-all_more : {X : Type 0} (P Q : X → Type 0) → ((x : X) → P x → Q x) → (xs : List X) → AllByRecursion P xs → AllByRecursion Q xs
-all_more P Q more [] are = are
-all_more P Q more (x ∷ xs) are = (more x are.0, all_more P Q more xs are.1)
-
-more_plan : (plan : List StepTree) → IsPlan Six plan → IsPlan (Nine 0) plan
-more_plan plan is = record { steps = all_more (IsPlanStep Six) (IsPlanStep (Nine 0)) more_step plan is.steps; low = is.low; few = is.few }
-
--- plans of the six forms are plans of a later version
-later_plans : (target : Target) (d : Data) (plans : List (List StepTree)) → is_script d ≡ false → version_number d ≡ Some (pos (number_of target))
-    → AllByRecursion (IsPlan Six) plans → AllByRecursion (IsPlan (forms_of d)) plans
-later_plans Second d plans kind is are = subst (λ (forms : Forms). AllByRecursion (IsPlan forms) plans) (sym (six d 2 is refl)) are
-later_plans Third d plans kind is are =
-    subst (λ (forms : Forms). AllByRecursion (IsPlan forms) plans) (sym (nine d kind is)) (all_more (IsPlan Six) (IsPlan (Nine 0)) more_plan plans are)
+-- the plans of an earlier version are plans of the target's
+later_plans : (target : Target) (d e : Data) (plans : List (List StepTree)) (n : ℕ) → version_number d ≡ Some (pos n) → n < number_of target
+    → is_script e ≡ false → version_number e ≡ Some (pos (number_of target)) → AllByRecursion (IsPlan (forms_of d)) plans
+    → AllByRecursion (IsPlan (forms_of e)) plans
+later_plans Second d e plans n before low kind after are = plans_in_second d e plans n before (omega arith) after are
+later_plans Third d e plans n before low kind after are = plans_in_third d e plans n before low kind after are
 
 -- ---- tables
 
@@ -187,9 +125,7 @@ module _ (target : Target) (d : Data) (file : PlanFile) (s : SpellsPlans d file)
       numbered new (number_of target) kind (ap (λ (o : Option Data). option_and_then whole o) (version-migrated (number_of target) d members.0 members.1))
 
   plans : AllByRecursion (IsPlan (forms_of new)) (map plan_view file.plans.items)
-  plans =
-      later_plans target new (map plan_view file.plans.items) kind number_after
-      (subst (λ (forms : Forms). AllByRecursion (IsPlan forms) (map plan_view file.plans.items)) (six d n number_before (not_three target n low)) s.plans)
+  plans = later_plans target d new (map plan_view file.plans.items) n number_before low kind number_after s.plans
 
   members : has_only_known (version_by (Some (own file.table_limits))) new ≡ true
   members =
@@ -205,7 +141,7 @@ module _ (target : Target) (d : Data) (file : PlanFile) (s : SpellsPlans d file)
   same_file : SpellsPlans new (in_later_version file)
   same_file = record {
     kind = kind;
-    version = of_version target new kind number_after;
+    version = of_version target new (own file.table_limits) kind number_after;
     members = members;
     list = ap (λ (o : Option Data). option_and_then as_array o) (stays (codes "plans") refl) ∙ s.list;
     count = s.count;

@@ -8,11 +8,9 @@ use Rattle.serde_json.specs.Written.{has_float}
 use Rattle.dl_source.specs.Spelling.{whole}
 use Rattle.dl_source.proofs.Spelling.{array_of}
 use Rattle.dl_documents.specs.Document.{IsOfVersion, is_script, is_known, is_plans_member, is_limit_member, whole_or_largest, GivesLimit, GivesTables}
-use Rattle.dl_documents.specs.Document.{SpellsPlans, forms_of, version_number}
+use Rattle.dl_documents.specs.Document.{SpellsPlans, version_number}
 use Rattle.dl_documents.specs.OwnLimits.{TableLimits, version_by}
 use Rattle.dl_documents.specs.Steps.{plan_view, plans_tree}
-use Rattle.dl_documents.specs.declared.head.Version.{Version}
-use Rattle.dl_documents.specs.declared.head.Version.TheVariants.{First, Second}
 use Rattle.dl_documents.specs.declared.input.PlanFile.{PlanFile}
 use Rattle.dl_source.specs.Tables.{Tables}
 use Rattle.dl_migration.proofs.SortedTrees.{IsSorted, sorted_get}
@@ -30,10 +28,11 @@ whole_number_of d e n kind number is =
     subst (λ (script : Bool). option_and_then whole (get (if script then codes "script" else codes "version") d) ≡ Some (pos n)) kind number in
     whole_number e (pos n) (sym (ap (option_and_then whole) is) ∙ given)
 
-version_whole : (d e : Data) (version : Version) → is_script d ≡ false → IsOfVersion d version → get (codes "version") d ≡ Some e → has_float e ≡ false
-version_whole d e First kind number is = whole_number_of d e 1 kind number is
-version_whole d e Second kind (inl number) is = whole_number_of d e 2 kind number is
-version_whole d e Second kind (inr number) is = whole_number_of d e 3 kind number.1 is
+version_whole : (d e : Data) (limited : Option TableLimits) → is_script d ≡ false → IsOfVersion d (version_by limited) → get (codes "version") d ≡ Some e
+    → has_float e ≡ false
+version_whole d e None kind number is = whole_number_of d e 1 kind number is
+version_whole d e (Some limits) kind (inl number) is = whole_number_of d e 2 kind number is
+version_whole d e (Some limits) kind (inr number) is = whole_number_of d e 3 kind number.1 is
 
 tables_whole : (d e : Data) (tables : Tables) (limited : Option TableLimits) → IsSorted d → GivesTables d tables limited → get (codes "tables") d ≡ Some e
     → has_float e ≡ false
@@ -48,7 +47,7 @@ module _ (d : Data) (f : PlanFile) (s : SpellsPlans d f) (sorted : IsSorted d) w
   plans_whole : (e : Data) → get (codes "plans") d ≡ Some e → has_float e ≡ false
   plans_whole e is =
       let plans = map plan_view f.plans.items in
-      ap has_float (array_of e (plans_tree plans) (sym (ap (option_and_then as_array) is) ∙ s.list)) ∙ whole_plans (forms_of d) plans s.plans
+      ap has_float (array_of e (plans_tree plans) (sym (ap (option_and_then as_array) is) ∙ s.list)) ∙ whole_plans d plans s.plans
 
   limit_whole : (k : List ℕ) (e : Data) → get k d ≡ Some e → is_limit_member k ≡ true → has_float e ≡ false
   limit_whole k e is known =
@@ -60,7 +59,7 @@ module _ (d : Data) (f : PlanFile) (s : SpellsPlans d f) (sorted : IsSorted d) w
   found_whole : (k : List ℕ) (e : Data) → get k d ≡ Some e → is_plans_member k ≡ true → has_float e ≡ false
   found_whole k e is known =
       of_four {P = has_float e ≡ false} (bytes_eq k (codes "version")) (bytes_eq k (codes "tables")) (bytes_eq k (codes "plans")) (is_limit_member k) known
-      (λ same. version_whole d e (version_by f.table_limits) s.kind s.version (under k (codes "version") d e same is))
+      (λ same. version_whole d e f.table_limits s.kind s.version (under k (codes "version") d e same is))
       (λ same. tables_whole d e f.tables f.table_limits sorted s.tables (under k (codes "tables") d e same is))
       (λ same. plans_whole e (under k (codes "plans") d e same is))
       (limit_whole k e is)

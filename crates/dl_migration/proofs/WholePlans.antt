@@ -8,8 +8,8 @@ use Rattle.serde_json.specs.Written.{has_float, items_have_float, members_have_f
 use Rattle.dl_values.specs.declared.outcome.Outcome.TheVariants as outcome
 use Rattle.dl_terms.specs.Tree.{Name, Tree, ended, load, pick, follow, each, all, over, the_item, named, Trees, no_trees, tree}
 use Rattle.dl_terms.specs.declared.answer.Answer.TheVariants as answer
+use Rattle.dl_documents.specs.Document.{forms_of}
 use Rattle.dl_documents.specs.Terms.{term_tree, terms_tree, members_tree, HasNames, IsTerm, AreTerms}
-use Rattle.dl_documents.specs.declared.forms.Forms.{Forms}
 use Rattle.dl_documents.specs.Steps.{StepTree, prime, clear, clear_all, eval, step_tree, plan_tree, plans_tree, IsPlanStep, IsPlan}
 
 -- what stands alone in an object, and with texts in a list that does
@@ -46,19 +46,19 @@ mutual
   whole_members (tree t ts) (name ∷ names) named are =
       or_from (has_float (term_tree t)) (members_have_float (members_tree names ts)) (whole_term t are.0) (whole_members ts names named are.1)
 
-whole_step : (forms : Forms) (s : StepTree) → IsPlanStep forms s → has_float (step_tree s) ≡ false
-whole_step forms (prime k (outcome.Value d)) is = alone ((has_float d || false) || false) (with_texts (has_float d) is.1)
-whole_step forms (prime k (outcome.KeyError text)) is = refl
-whole_step forms (prime k (outcome.BatchFailed fault)) is = absurd is.1
-whole_step forms (clear k) is = refl
-whole_step forms clear_all is = refl
-whole_step forms (eval t) is = alone (has_float (term_tree t)) (whole_term t is.0)
+whole_step : (d : Data) (s : StepTree) → IsPlanStep (forms_of d) s → has_float (step_tree s) ≡ false
+whole_step d (prime k (outcome.Value e)) is = alone ((has_float e || false) || false) (with_texts (has_float e) is.1)
+whole_step d (prime k (outcome.KeyError text)) is = refl
+whole_step d (prime k (outcome.BatchFailed fault)) is = absurd is.1
+whole_step d (clear k) is = refl
+whole_step d clear_all is = refl
+whole_step d (eval t) is = alone (has_float (term_tree t)) (whole_term t is.0)
 
 module _ {A : Type 0} (spell : A → Data) (Is : A → Type 0) (one_whole : (a : A) → Is a → has_float (spell a) ≡ false) where
   whole_items : (xs : List A) → AllByRecursion Is xs → items_have_float (items_of (map spell xs)) ≡ false
   whole_items [] are = refl
   whole_items (x ∷ xs) are = or_from (has_float (spell x)) (items_have_float (items_of (map spell xs))) (one_whole x are.0) (whole_items xs are.1)
 
-pub whole_plans : (forms : Forms) (plans : List (List StepTree)) → AllByRecursion (IsPlan forms) plans → items_have_float (plans_tree plans) ≡ false
-whole_plans forms plans are =
-    whole_items plan_tree (IsPlan forms) (λ plan is. whole_items step_tree (IsPlanStep forms) (whole_step forms) plan is.steps) plans are
+pub whole_plans : (d : Data) (plans : List (List StepTree)) → AllByRecursion (IsPlan (forms_of d)) plans → items_have_float (plans_tree plans) ≡ false
+whole_plans d plans are =
+    whole_items plan_tree (IsPlan (forms_of d)) (λ plan is. whole_items step_tree (IsPlanStep (forms_of d)) (whole_step d) plan is.steps) plans are
