@@ -1,6 +1,6 @@
 -- How the fault of a term comes from one of its parts.
-use Rattle.std.proofs.Common.{◌≡◌, ◌∙◌, ap, sym, subst, refl, ℕ, suc, ◌+◌, ◌<◌, ◌≤◌, List, [], ◌∷◌, ◌++◌, length, map, drop, take, get_or, Bool, true, false, Option, Some, None, append_assoc, arith}
-use Rattle.std.specs.Prelude.{option_map, option_and_then, is_some, reverse, Result, Ok, Err, if◌then◌else◌, ◌⊎◌}
+use Rattle.std.proofs.Common.{◌≡◌, ◌∙◌, ap, sym, subst, refl, ℕ, suc, ◌+◌, ◌<◌, List, [], ◌∷◌, ◌++◌, length, map, drop, take, get_or, Option, Some, None, append_assoc, arith}
+use Rattle.std.specs.Prelude.{option_map, option_and_then, reverse, Result, Ok, Err}
 use Rattle.std.proofs.Common.{inl, inr}
 use Rattle.std.specs.List.{AllZip}
 use Rattle.std.proofs.lemmas.List.{length-take, map-append, reverse-append, take-append-drop, take_more}
@@ -12,15 +12,15 @@ use Rattle.serde_json.specs.declared.value.Value.{Value as JsonValue}
 use Rattle.dl_values.specs.Key.{Key}
 use Rattle.dl_values.specs.declared.outcome.Outcome.{Outcome}
 use Rattle.dl_history.specs.Lists.{Every}
-use Rattle.dl_terms.specs.Tree.{Name, Tree, ended, load, pick, follow, each, all, Trees}
-use Rattle.dl_terms.specs.TermAnswers.{answer, answers, both, field_or, gather, gathered, ended_as, Gathered, item_targets, list_targets, picked, target_answer, target_answers, target_in, Target, Targets, targets_answer, targets_in, value_target, with_first}
+use Rattle.dl_terms.specs.Tree.{Name, Tree, load, pick, follow, each, all}
+use Rattle.dl_terms.specs.TermAnswers.{answer, answers, both, field_or, gather, gathered, ended_as, Gathered, item_targets, list_targets, picked, target_answer, target_answers, target_in, Targets, targets_answer, targets_in, value_target, with_first}
 use Rattle.dl_terms.specs.View.{term_view, terms_view, trees_of}
 use Rattle.dl_terms.specs.declared.answer.Answer.{Answer}
 use Rattle.dl_terms.specs.declared.answer.Answer.TheVariants.{Value, Fault}
 use Rattle.dl_terms.specs.declared.answer.EvalFault.{EvalFault}
 use Rattle.dl_terms.specs.declared.answer.EvalFault.TheVariants as why
 use Rattle.dl_terms.specs.declared.term.Term.{Term}
-use Rattle.dl_picture.specs.FaultPath.{ComesFrom, EndsWith, HasField, HasIds, HasItem, HasOwnFault, HasValue, IsLeftmost, LacksField, LeadsTo, list_of, MayEndWith, Meets, parts_of}
+use Rattle.dl_picture.specs.FaultPath.{ComesFrom, EndsWith, HasOwnFault, HasValue, IsLeftmost, LeadsTo, list_of, MayEndWith, Meets, parts_of}
 use Rattle.dl_picture.specs.Seeking.{AreItems, AreTogether, FailsAs, FailsAtFirst, id_answer, ids_answer, IsItem, IsOver, value_ending}
 use Rattle.dl_picture.specs.declared.origin.Met.TheVariants as met
 use Rattle.dl_picture.specs.declared.origin.Origin.{Origin}

@@ -1,10 +1,10 @@
 -- What parts of terms ask for and answer.
-use Rattle.std.proofs.Common.{◌≡◌, ◌∙◌, ap, sym, subst, refl, ℕ, zero, ◌+◌, ◌<◌, ◌≤◌, Bool, true, false, not, ◌&&◌, ◌||◌, nat_lt, List, [], ◌∷◌, length, drop}
+use Rattle.std.proofs.Common.{◌≡◌, ◌∙◌, ap, sym, subst, refl, ℕ, ◌+◌, ◌<◌, ◌≤◌, Bool, true, false, not, ◌&&◌, ◌||◌, List, [], ◌∷◌, length, drop}
 use Rattle.std.proofs.Common.{get_or, Option, Some, None, arith, rules}
-use Rattle.std.specs.Prelude.{is_some, option_map, option_and_then, if◌then◌else◌, Result, Ok, Err, IfOk, Vec, Box}
+use Rattle.std.specs.Prelude.{is_some, option_map, Result, Ok, Err, IfOk, Vec, Box}
 use Rattle.std.specs.declared.alloc.Global.{Global}
 use Rattle.std.proofs.lemmas.List.{drop_all, drop_more}
-use Rattle.serde_json.specs.Data.{Data, array}
+use Rattle.serde_json.specs.Data.{Data}
 use Rattle.serde_json.specs.Find.{get}
 use Rattle.dl_terms.specs.Tree.{Name, Tree, ended, load, pick, follow, each, all}
 use Rattle.dl_terms.specs.View.{term_view, terms_view}
@@ -20,7 +20,7 @@ use Rattle.dl_terms.specs.declared.answer.Answer.TheVariants.{Value, Fault}
 use Rattle.dl_terms.specs.declared.answer.EvalFault.{EvalFault}
 use Rattle.dl_terms.specs.declared.answer.EvalFault.TheVariants as why
 use Rattle.dl_picture.specs.Asking.{Asks, AsksAfter, AsksTarget, AsksTerm, HasNoField, IsNoValue, IsPart}
-use Rattle.dl_picture.specs.TermLoads.{loads_after, targets_loads}
+use Rattle.dl_picture.specs.TermLoads.{targets_loads}
 use Rattle.dl_picture.specs.declared.asking.Asking.{Asking}
 use Rattle.dl_picture.specs.declared.asking.Part.{Part}
 use Rattle.dl_picture.specs.declared.asking.Part.TheVariants as part

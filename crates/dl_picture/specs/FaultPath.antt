@@ -1,5 +1,5 @@
 -- From which part of a term its fault comes, by which path, and what that part met.
-use Rattle.std.specs.Prelude.{◌≡◌, ◌⊎◌, ℕ, List, [], ◌∷◌, ◌++◌, length, reverse, Option, Some, None, option_and_then, Result, Ok, Err, if◌then◌else◌, is_some}
+use Rattle.std.specs.Prelude.{◌≡◌, ◌⊎◌, ℕ, List, [], ◌∷◌, ◌++◌, length, reverse, Option, Some, None, Result, Ok, Err, if◌then◌else◌, is_some}
 use Rattle.serde_json.specs.Data.{Data}
 use Rattle.serde_json.specs.Find.{get, as_array}
 use Rattle.serde_json.specs.View.{items_of, view}
@@ -11,7 +11,6 @@ use Rattle.dl_history.specs.Lists.{Every}
 use Rattle.dl_terms.specs.Tree.{Name, Tree, ended, load, pick, follow, each, all, Trees, no_trees, tree}
 use Rattle.dl_terms.specs.TermAnswers.{answer, picked, target_answer, Targets, targets_in, value_target}
 use Rattle.dl_terms.specs.View.{term_view}
-use Rattle.dl_terms.specs.declared.answer.Answer.{Answer}
 use Rattle.dl_terms.specs.declared.answer.Answer.TheVariants.{Value, Fault}
 use Rattle.dl_terms.specs.declared.answer.EvalFault.{EvalFault}
 use Rattle.dl_picture.specs.TermLoads.{Cells, known_by, rounds_after, with_call}

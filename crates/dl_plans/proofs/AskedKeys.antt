@@ -1,26 +1,16 @@
 -- Keys for which a database is asked, counted one batch and one event after another.
-use Rattle.std.proofs.Common.{◌≡◌, ◌∙◌, sym, ap, subst, cond, ℕ, ◌+◌, ◌<◌, ◌≤◌, Bool, true, List, [], ◌∷◌, ◌++◌, get_or, length, take, add-one, add-zero, arith, nat_lt, Some, None}
+use Rattle.std.proofs.Common.{◌≡◌, ◌∙◌, sym, ap, subst, cond, ℕ, ◌+◌, ◌≤◌, Bool, true, List, [], ◌∷◌, ◌++◌, take, add-one, add-zero, arith, nat_lt, Some, None}
 use Rattle.std.specs.Prelude.{count_by, slice_get, sum, sum_by}
-use Rattle.std.proofs.lemmas.List.Sums.{sum_by_more, sum_by_push}
+use Rattle.std.proofs.lemmas.List.Sums.{sum_by_push}
 use Rattle.dl_values.specs.Key.{Key}
 use Rattle.dl_desk.specs.Events.{atoms}
 use Rattle.dl_desk.specs.History.{Atom, begun}
-use Rattle.dl_desk.specs.Legal.{keys_of}
 use Rattle.dl_desk.specs.declared.event.Event.{Event}
 use Rattle.dl_history.specs.History.{past}
 use Rattle.dl_history.proofs.ListLemmas.{take-get}
 use Rattle.dl_picture.proofs.EventCounts.{take_none}
 use Rattle.dl_plans.specs.Statistics.{AreAsked, asked_counts, asked_loads, database_text, first_counts, loaded_keys, numbers_text}
 use Rattle.dl_plans.specs.declared.statistics.AskedBatches.{AskedBatches}
-
--- ---- keys
-
--- one key more, of which `b` says whether it is asked for
-pub key_more : (asked : Key → Bool) (keys : List Key) (i count now : ℕ) (k : Key) (b : Bool) → i < length keys → k ≡ get_or keys i k → b ≡ asked k
-    → now ≡ count + cond b 1 0 → count ≡ count_by asked (take i keys) → now ≡ count_by asked (take (i + 1) keys)
-key_more asked keys i count now k b low is same next so_far =
-    next ∙ (ap (λ n. n + cond b 1 0) so_far
-    ∙ (ap (λ c. count_by asked (take i keys) + cond c 1 0) (same ∙ ap asked is) ∙ sym (sum_by_more (λ x. cond (asked x) 1 0) keys i k low)))
 
 -- ---- batches
 
@@ -46,15 +36,6 @@ some_more counts count n m some batches keys are = record {
   batches = batches ∙ (ap (λ k. k + 1) are.batches ∙ sym (batches_push counts count 1 (ap (λ b. cond b 1 0) some)));
   keys = keys ∙ (ap (λ k. k + count) are.keys ∙ sym (keys_push counts count));
 }
-
--- one batch more
-pub batch_more : (asked : Key → Bool) (history : List Atom) (n : ℕ) (keys : List Key) (count : ℕ) (m : AskedBatches) → keys ≡ keys_of history n
-    → count ≡ count_by asked keys → AreAsked (first_counts asked history n ++ count ∷ []) m → AreAsked (first_counts asked history (n + 1)) m
-batch_more asked history n keys count m same counted are =
-    let counts = first_counts asked history n in
-    let is : counts ++ count ∷ [] ≡ first_counts asked history (n + 1) =
-    ap (λ k. counts ++ k ∷ []) (counted ∙ ap (count_by asked) same) ∙ ap (first_counts asked history) (sym (add-one n)) in
-    subst (λ ks. AreAsked ks m) is are
 
 -- all batches were counted
 pub all_asked : (asked : Key → Bool) (history : List Atom) (n : ℕ) (m : AskedBatches) → n ≤ begun history → begun history ≤ n

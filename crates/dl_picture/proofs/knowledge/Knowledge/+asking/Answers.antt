@@ -1,6 +1,5 @@
 use Rattle.std.proofs.Common.{◌∙◌, ap, subst, sym, refl, ◌+◌, ◌≤◌, length, arith}
 use Rattle.std.specs.Prelude.{Some, IfOk, is_some, option_map}
-use Rattle.serde_json.specs.View.{view}
 use Rattle.dl_terms.specs.Tree.{all}
 use Rattle.dl_terms.specs.TermAnswers.{answer, answers, gathered}
 use Rattle.dl_terms.specs.View.{term_view, terms_view}
