@@ -9,7 +9,7 @@ use Rattle.serde_json.specs.Find.{get}
 use Rattle.serde_json.specs.View.{view}
 use Rattle.serde_json.specs.declared.value.Value.{Value}
 use Rattle.dl_documents.specs.Document.{has_number, is_script, version_number}
-use Rattle.dl_documents.specs.OverDatabase.{is_later, lacks_tables, over_database, read_as, with_no_tables}
+use Rattle.dl_documents.specs.OverDatabase.{is_later, lacks_tables, read_as, with_no_tables}
 use Rattle.dl_documents.specs.Inside.Top.{IsApart, top_data, top_members, with_tables}
 use Rattle.dl_documents.specs.Inside.Trees.{object_data}
 use Rattle.dl_documents.specs.declared.top.Top.{Top}

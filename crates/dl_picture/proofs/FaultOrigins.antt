@@ -1,6 +1,6 @@
 -- How the fault of a term comes from one of its parts.
-use Rattle.std.proofs.Common.{◌≡◌, ◌∙◌, ap, sym, subst, refl, ℕ, suc, ◌+◌, ◌<◌, ◌≤◌, List, [], ◌∷◌, ◌++◌, length, map, drop, take, get_or, Bool, true, false, Option, Some, None, append_assoc, arith}
-use Rattle.std.specs.Prelude.{option_map, option_and_then, is_some, reverse, Result, Ok, Err, if◌then◌else◌, ◌⊎◌}
+use Rattle.std.proofs.Common.{◌≡◌, ◌∙◌, ap, sym, subst, refl, ℕ, suc, ◌+◌, ◌<◌, ◌≤◌, List, [], ◌∷◌, ◌++◌, length, map, drop, take, get_or, Option, Some, None, append_assoc, arith}
+use Rattle.std.specs.Prelude.{option_map, option_and_then, reverse, Result, Ok, Err}
 use Rattle.std.proofs.Common.{inl, inr}
 use Rattle.std.specs.List.{AllZip}
 use Rattle.std.proofs.lemmas.List.{length-append, length-map, length-take, map-append, reverse-append, take-append-drop, take_more}
@@ -12,9 +12,9 @@ use Rattle.serde_json.specs.declared.value.Value.{Value as JsonValue}
 use Rattle.dl_values.specs.Key.{Key}
 use Rattle.dl_values.specs.declared.outcome.Outcome.{Outcome}
 use Rattle.dl_history.specs.Lists.{Every}
-use Rattle.dl_terms.specs.Tree.{Name, Tree, ended, load, pick, follow, each, all, over, the_item, named, Trees, tree, copies, with_item, with_item_all}
+use Rattle.dl_terms.specs.Tree.{Name, Tree, ended, load, pick, follow, each, all, over, the_item, named, tree, copies, with_item, with_item_all}
 use Rattle.dl_terms.specs.TermAnswers.{answer, answer_at, answers, both, copies_answer, field_or, gather, gathered, Gathered, item_targets, Joint, joined, joined_as, joined_data}
-use Rattle.dl_terms.specs.TermAnswers.{listing, naming, Listed, listed, list_targets, picked, target_answer, target_answers, target_in, Target, Targets, targets_answer}
+use Rattle.dl_terms.specs.TermAnswers.{listing, naming, Listed, listed, list_targets, picked, target_answer, target_answers, target_in, Targets, targets_answer}
 use Rattle.dl_terms.specs.TermAnswers.{targets_in, value_target, with_first}
 use Rattle.dl_terms.proofs.Substitution.{copies_given}
 use Rattle.dl_terms.specs.View.{term_view, terms_view, trees_of}
@@ -23,8 +23,8 @@ use Rattle.dl_terms.specs.declared.answer.Answer.TheVariants.{Value, Fault}
 use Rattle.dl_terms.specs.declared.answer.EvalFault.{EvalFault}
 use Rattle.dl_terms.specs.declared.answer.EvalFault.TheVariants as why
 use Rattle.dl_terms.specs.declared.term.Term.{Term}
-use Rattle.dl_picture.specs.FaultPath.{at_item, ComesFrom, copies_after, copies_over, EndsWith, HasField, HasIds, HasItem, HasOwnFault, HasValue, IsLeftmost, IsOf}
-use Rattle.dl_picture.specs.FaultPath.{LacksField, LeadsTo, list_of, MayEndWith, Meets, parts_of}
+use Rattle.dl_picture.specs.FaultPath.{at_item, ComesFrom, copies_after, copies_over, EndsWith, HasOwnFault, HasValue, IsLeftmost, IsOf}
+use Rattle.dl_picture.specs.FaultPath.{LeadsTo, list_of, MayEndWith, Meets, parts_of}
 use Rattle.dl_picture.specs.Seeking.{AreItems, AreTogether, FailsAs, FailsAtFirst, id_answer, ids_answer, IsItem, IsOver, IsTogether, value_ending}
 use Rattle.dl_picture.specs.declared.origin.Met.TheVariants as met
 use Rattle.dl_picture.specs.declared.origin.Origin.{Origin}

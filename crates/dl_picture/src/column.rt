@@ -52,10 +52,13 @@ pub(crate) struct Column<'a> {
 impl Column<'_> {
     /// How high it is.
     pub(crate) fn height(&self) -> u64 {
-        (self.lines.count() as u64)
-            .saturating_mul(LINE_HEIGHT)
-            .saturating_add(self.top())
-            .saturating_add(FOOT_HEIGHT)
+        let mut height = self.top().saturating_add(FOOT_HEIGHT);
+        for place in 0..self.lines.count() {
+            if let Some(line) = self.lines.line(place) {
+                height = height.saturating_add(line.height());
+            }
+        }
+        height
     }
 
     /// The same with these lines.
@@ -116,7 +119,7 @@ fn push_lines(sheet: &mut Sheet, top: u64, lines: Lines<'_>) {
     for place in 0..lines.count() {
         if let Some(line) = lines.line(place) {
             push_line(sheet, y, &line);
-            y = y.saturating_add(LINE_HEIGHT);
+            y = y.saturating_add(line.height());
         }
     }
 }
@@ -128,6 +131,10 @@ fn push_line(sheet: &mut Sheet, y: u64, line: &Line<'_>) {
             push_title(sheet, y, line, label.as_str());
             let badges = push_badges(sheet, line.badges);
             push_label(sheet, line, label.as_str(), badges.saturating_sub(1));
+            if let Some(why) = line.told() {
+                push_cut_text(sheet, BADGE + CHARACTER, FOOT + LINE_HEIGHT, why, LINE_ROOM);
+            }
+            sheet.push("</g>\n");
         }
         Err(error) => sheet.note(Err(error)),
     }
@@ -169,7 +176,7 @@ fn push_badges(sheet: &mut Sheet, badges: Badges) -> u64 {
     count
 }
 
-/// The words of a line behind a badge and as many others, and its end.
+/// The words of a line behind a badge and as many others.
 fn push_label(sheet: &mut Sheet, line: &Line<'_>, label: &str, others: u64) {
     let x = others
         .saturating_mul(BADGE_STEP)
@@ -183,7 +190,6 @@ fn push_label(sheet: &mut Sheet, line: &Line<'_>, label: &str, others: u64) {
         }
         None => push_cut_text(sheet, x, FOOT, label, room),
     }
-    sheet.push("</g>\n");
 }
 
 /// The badge of a mark, with its corner at x and y: a square in the colour of the mark, with its letter.

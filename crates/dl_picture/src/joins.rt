@@ -62,8 +62,8 @@ impl Joins {
                 if let Some(batch) = line.batch {
                     self.note_key(batch, x, y)?;
                 }
+                y = y.saturating_add(line.height());
             }
-            y = y.saturating_add(LINE_HEIGHT);
         }
         Ok(())
     }

@@ -1,6 +1,7 @@
 //! Lines of columns: what became of each key of a call or of a batch.
 
 use crate::cells::{Fate, why_of};
+use crate::column::LINE_HEIGHT;
 use crate::mark::{Badges, Mark};
 use crate::phrase::Phrase;
 use crate::sheet::Sheet;
@@ -48,14 +49,15 @@ impl Label<'_> {
     }
 }
 
-/// A line of a column: its marks, what they are for, the batch that a fresh load's key went into, and the text of an
-/// error.
+/// A line of a column: its marks, what they are for, the batch that a fresh load's key went into, the text of an error,
+/// and whether the column shows that text below the line.
 #[derive(Clone, Copy)]
 pub(crate) struct Line<'a> {
     pub(crate) badges: Badges,
     pub(crate) label: Label<'a>,
     pub(crate) batch: Option<u32>,
     pub(crate) why: Option<&'a str>,
+    shows_why: bool,
 }
 
 /// A batch that ended, and the mark of its end.
@@ -109,6 +111,20 @@ impl<'a> Line<'a> {
             label,
             batch: None,
             why: None,
+            shows_why: false,
+        }
+    }
+
+    /// The text that the column shows below it, if any.
+    pub(crate) fn told(&self) -> Option<&'a str> {
+        if self.shows_why { self.why } else { None }
+    }
+
+    /// How high it is, with that text.
+    pub(crate) fn height(&self) -> u64 {
+        match self.told() {
+            Some(_) => LINE_HEIGHT + LINE_HEIGHT,
+            None => LINE_HEIGHT,
         }
     }
 
@@ -124,6 +140,7 @@ impl<'a> Line<'a> {
             label: Label::Key(key),
             batch,
             why: fate.and_then(|fate| fate.why()),
+            shows_why: false,
         }
     }
 
@@ -139,6 +156,7 @@ impl<'a> Line<'a> {
             label: Label::Key(key),
             batch: None,
             why: why_of(outcome),
+            shows_why: true,
         }
     }
 

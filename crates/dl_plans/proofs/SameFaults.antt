@@ -6,7 +6,6 @@ use Rattle.dl_values.specs.Key.{Key, key_eq}
 use Rattle.dl_values.specs.declared.outcome.BatchFault.{BatchFault}
 use Rattle.dl_values.proofs.KeyLemmas.{key_eq-same}
 use Rattle.dl_values.proofs.Names.{bytes_eq-same}
-use Rattle.dl_terms.specs.declared.answer.EvalFault.{EvalFault}
 use Rattle.dl_terms.specs.declared.answer.EvalFault.TheVariants as why
 
 pub same_key : (a b : Key) (s t : List ℕ) → (key_eq a b && bytes_eq s t) ≡ true → why.Key a s ≡ why.Key b t

@@ -1,7 +1,6 @@
 -- What a host tells of an event, and of all events so far.
-use Rattle.std.proofs.Common.{◌≡◌, ◌∙◌, sym, ℕ, zero, suc, ◌+◌, ◌≤◌, List, [], ◌∷◌, ◌++◌, length, map, take, Option, Some, None, slice_get, refl, ap, inl, inr, arith}
+use Rattle.std.proofs.Common.{◌≡◌, ◌∙◌, sym, ℕ, zero, suc, ◌+◌, List, [], ◌∷◌, ◌++◌, length, map, take, Option, Some, None, slice_get, refl, ap, inr, arith}
 use Rattle.std.proofs.lemmas.List.{map-append, take_all}
-use Rattle.dl_desk.specs.declared.event.Event.{Event}
 use Rattle.dl_loader.specs.Book.{Keeps}
 use Rattle.dl_desk.specs.Legal.{call_of}
 use Rattle.dl_desk.specs.Service.{Service}

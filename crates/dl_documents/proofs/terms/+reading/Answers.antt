@@ -1,16 +1,15 @@
-use Rattle.std.proofs.Common.{◌≡◌, ◌∙◌, ◌<◌, ◌≤◌, List, [], ◌∷◌, length, map, Option, Some, None, option_map, Vec, Global, refl, sym, ap, subst, rules, arith}
+use Rattle.std.proofs.Common.{◌≡◌, ◌∙◌, ◌≤◌, List, [], ◌∷◌, length, map, Option, Some, None, option_map, Vec, Global, refl, sym, ap, subst, rules, arith}
 use Rattle.std.proofs.lemmas.List.{map-append}
 use Rattle.std.specs.Prelude.{IfOk}
 use Rattle.std.proofs.lemmas.Result.{IfOk-from_err}
 use Rattle.serde_json.specs.Data.{depth, items_depth}
-use Rattle.serde_json.specs.Find.{as_array}
 use Rattle.dl_terms.specs.Tree.{Tree, pick, follow, each}
 use Rattle.dl_terms.specs.View.{term_view}
 use Rattle.dl_terms.specs.declared.term.Term.{Term}
 use Rattle.dl_documents.specs.Inside.Trees.{tree_data, list_data}
 use Rattle.dl_documents.proofs.FindingLists.{found_first, found_next, found_none}
 use Rattle.dl_documents.proofs.TermParts.{no_list, no_names, other_name, field_lower, link_lower}
-use Rattle.dl_documents.proofs.TermParts.{no_over, over_no_part, over_no_body, over_some, part_lower, body_lower, no_object, members_none, members_some, values_lower}
+use Rattle.dl_documents.proofs.TermParts.{no_over, over_no_part, over_no_body, over_some, part_lower, no_object, members_none, members_some, values_lower}
 use Rattle.dl_documents.proofs.TermParts.{term_view-Follow, term_view-Each, pick_none, pick_some, link_none, link_some}
 use Rattle.dl_documents.proofs.Trees.{no_term, one_term, all_unread, all_made, item_within, rest_within, items_lower, all_read}
 use Rattle.std.specs.Vec.Iter.{into_iter_items}

@@ -1,8 +1,8 @@
-use Rattle.std.proofs.Common.{rules, subst, sym}
+use Rattle.std.proofs.Common.{rules}
 use Rattle.std.proofs.lemmas.Str.{IsUtf8-string_bytes}
 use Rattle.serde_json.specs.View.{view}
-use Rattle.dl_migration.specs.Migration.{IsEarlier, IsOther, IsUnmigrated, ReadsAs}
-use Rattle.dl_migration.proofs.Migrations.{is_late, is_migrated}
+use Rattle.dl_migration.specs.Migration.{IsEarlier, ReadsAs}
+use Rattle.dl_migration.proofs.Migrations.{is_migrated}
 use Rattle.dl_migration.proofs.migration.migrate.Goals as goal
 
 pub returns-clause-ok : goal.returns-clause-ok

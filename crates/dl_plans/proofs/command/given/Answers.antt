@@ -1,7 +1,7 @@
-use Rattle.std.proofs.Common.{rules, ◌∙◌, sym, refl, codes}
+use Rattle.std.proofs.Common.{rules, ◌∙◌, refl, codes}
 use Rattle.clap.proofs.WalkLemmas.{first_value-rows, one_text-rows}
 use Rattle.clap.specs.Words.{found_of}
-use Rattle.dl_plans.proofs.CommandMatches.{number_given, name_used}
+use Rattle.dl_plans.proofs.CommandMatches.{number_given}
 use Rattle.dl_plans.proofs.command.given.Goals as goal
 
 pub returns : goal.returns

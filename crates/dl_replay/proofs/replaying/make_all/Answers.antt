@@ -1,4 +1,4 @@
-use Rattle.std.proofs.Common.{rules, ◌≡◌, ◌<◌, length, slice_get, Some, refl, arith}
+use Rattle.std.proofs.Common.{rules, ◌<◌, length, refl, arith}
 use Rattle.std.proofs.lemmas.Option.{slice_get_read}
 use Rattle.dl_replay.proofs.Lines.{one_made}
 use Rattle.dl_replay.proofs.replaying.make_all.Goals as goal

@@ -5,10 +5,9 @@ use Rattle.dl_terms.specs.Tree.{height_of, height_of_all}
 use Rattle.dl_terms.specs.TermAnswers.{answer_at, answers_at, copies_answer, copy_answers, gathered, listed, listing, picked, target_answer, target_in, targets_answer, targets_in}
 use Rattle.dl_terms.specs.View.{term_view, terms_view}
 use Rattle.dl_terms.proofs.TermViews.{item_high, term_view-All, term_view-Each, term_view-Follow, term_view-Object, term_view-Over, term_view-Pick}
-use Rattle.dl_picture.specs.Asking.{Asks, AsksAfter, AsksTerm, joint_by, known_of, listed_as}
+use Rattle.dl_picture.specs.Asking.{Asks, AsksAfter, AsksTerm, known_of, listed_as}
 use Rattle.dl_picture.specs.TermLoads.{all_loads_at, copies_load, copy_loads, loads_at, target_loads, targets_loads}
-use Rattle.dl_picture.proofs.PartAnswers.{after_none, after_value, asks_as, finished, gives_done, gives_next, if_ok, loads_done, loads_next, of_part, of_pick}
-use Rattle.dl_picture.proofs.PartAnswers.{term_view-Load, term_view-Value}
+use Rattle.dl_picture.proofs.PartAnswers.{after_none, after_value, finished, gives_done, gives_next, if_ok, loads_done, loads_next, of_part, of_pick}
 use Rattle.dl_picture.proofs.knowledge.Knowledge.+asking.Goals as goal
 
 pub ask_copies-loop-item-preserved : goal.ask_copies-loop-item-preserved

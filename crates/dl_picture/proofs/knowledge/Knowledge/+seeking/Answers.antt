@@ -1,5 +1,5 @@
 use Rattle.std.proofs.Common.{◌≡◌, ◌∙◌, ◌+◌, ◌≤◌, ap, map, refl, subst, sym, arith}
-use Rattle.std.specs.Prelude.{Some, None, IfNone, IfSome, max, option_copied}
+use Rattle.std.specs.Prelude.{None, IfNone, IfSome, max, option_copied}
 use Rattle.std.specs.List.{AllZip}
 use Rattle.std.proofs.lemmas.List.{take_all}
 use Rattle.dl_terms.specs.TermAnswers.{answer, answers, listing, naming}

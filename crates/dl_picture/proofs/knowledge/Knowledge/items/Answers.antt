@@ -2,7 +2,6 @@ use Rattle.std.proofs.Common.{◌≡◌, ◌∙◌, Some, ap, sym, arith}
 use Rattle.serde_json.specs.View.{items_of}
 use Rattle.serde_json.specs.Find.{as_array}
 use Rattle.std.specs.Option.{option_map}
-use Rattle.dl_terms.specs.TermAnswers.{list_items}
 use Rattle.dl_terms.proofs.Bodies.{over_few, over_many}
 use Rattle.dl_picture.proofs.knowledge.Knowledge.items.Goals as goal
 

@@ -1,7 +1,7 @@
 use Rattle.std.proofs.Common.{◌∙◌, ap, refl}
 use Rattle.std.specs.Prelude.{Some, option_map}
 use Rattle.dl_terms.specs.TermAnswers.{loaded}
-use Rattle.dl_picture.specs.Asking.{Asks, AsksTarget, known_of}
+use Rattle.dl_picture.specs.Asking.{known_of}
 use Rattle.dl_picture.proofs.PartAnswers.{answer_after, if_ok}
 use Rattle.dl_picture.proofs.knowledge.Knowledge.load.Goals as goal
 

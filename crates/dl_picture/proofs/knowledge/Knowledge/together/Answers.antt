@@ -1,10 +1,10 @@
-use Rattle.std.proofs.Common.{◌≡◌, ◌∙◌, ◌+◌, ap, sym, subst, arith, length}
+use Rattle.std.proofs.Common.{subst}
 use Rattle.std.specs.Prelude.{IfSome}
 use Rattle.std.specs.List.{AllZip}
 use Rattle.dl_picture.specs.Asking.{joint_by, known_of}
-use Rattle.dl_picture.specs.FaultPath.{EndsWith, IsLeftmost}
+use Rattle.dl_picture.specs.FaultPath.{EndsWith}
 use Rattle.dl_picture.specs.Seeking.{Gathers}
-use Rattle.dl_picture.proofs.FaultOrigins.{all_faults, all_first, all_values, behind_few, together_leftmost}
+use Rattle.dl_picture.proofs.FaultOrigins.{all_faults, all_first, all_values, together_leftmost}
 use Rattle.dl_picture.proofs.knowledge.Knowledge.together.Goals as goal
 
 pub returns-in-Ok : goal.returns-in-Ok
