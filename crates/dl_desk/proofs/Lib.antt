@@ -8,6 +8,7 @@ pub mod DispatchJobs
 pub mod Steps
 pub mod Tails
 pub mod MemoMembers
+mod MemoPlaces
 pub mod TableNames
 pub mod TablePlaces
 pub mod TableLemmas

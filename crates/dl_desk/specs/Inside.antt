@@ -1,5 +1,6 @@
 pub mod StoredBatch
 pub mod Preparation
+pub mod MemoPlaces
 pub mod TableName
 pub mod TableMap
 pub mod TableBook

@@ -1,7 +1,7 @@
 //! The desk: one loader, for one thread.
 
 ghost use Rattle.std.specs.Prelude.{◌≡◌, ◌<◌, ◌≤◌, ◌-◌, if◌then◌else◌, None, [], ◌∷◌, ◌++◌, length, map, take, vec_len, false, IfOk, IfErr, OnOk, OnErr};
-ghost use Rattle.std.specs.Prelude.{slice_get, nat_le, IsTrue, IsSome};
+ghost use Rattle.std.specs.Prelude.{slice_get, nat_le, Some, IsTrue, IsSome, IfSome, IfNone};
 ghost use Rattle.std.specs.Prelude.{List};
 ghost use Rattle.std.specs.Map.{lookup};
 ghost use Rattle.dl_values.specs.Key.{Key, key_eq};
@@ -9,6 +9,7 @@ ghost use Rattle.dl_values.specs.Limits.{mixed, by_table};
 ghost use Rattle.dl_desk.specs.History.{Atom, Load, Prime, has_member, load_reply, prime_reply};
 ghost use Rattle.dl_desk.specs.BatchBook.{StandsFor};
 ghost use Rattle.dl_desk.specs.Inside.TableBook.{rules_of, AreNoTables};
+ghost use Rattle.dl_desk.specs.Inside.MemoPlaces.{IsAt};
 ghost use Rattle.dl_desk.specs.Inside.Preparation.{members_at, has_room_in, book_room, book_jobs, MayJoin, Joins, Puts, PutsAlone, RefusesStep};
 
 mod batch_view;
@@ -241,6 +242,8 @@ impl Desk {
     }
 
     /// Makes the call that you prepared last, if you prepared one: the desk shows it from now on. It can't fail.
+    // Inlined for the sake of loads that find their key.
+    #[inline(always)]
     pub fn make_prepared(&mut self)
         ensures rules { self.new.book.rules ≡ self.old.book.rules }
         ensures book { self.new.book ≡ self.old.prepared }
@@ -269,11 +272,29 @@ impl Desk {
         self.is_prepared = false;
     }
 
-    /// The cell that the memo holds for the key, with what is prepared.
-    fn found(&self, key: &FetchKey) -> Option<u32>
-        ensures { result ≡ lookup (key_eq key.now) self.now.prepared.memo }
+    /// The cell that the memo holds for the key, with what is prepared, and the place at which it holds the key.
+    fn found(&self, key: &FetchKey) -> Option<(u32, usize)>
+        ensures cell { IfSome result (λ r. lookup (key_eq key.now) self.now.prepared.memo ≡ Some r.0) }
+        ensures place { IfSome result (λ r. IsAt self.now.prepared.memo r.1 key.now) }
+        ensures none { IfNone result (lookup (key_eq key.now) self.now.prepared.memo ≡ None) }
     {
-        self.memo.get(key).copied()
+        match self.memo.get_full(key) {
+            Some((place, _, cell)) => Some((*cell, place)),
+            None => None,
+        }
+    }
+
+    /// A copy of the key at a place of the memo, with what is prepared. It shares the texts of the memo's own key. Fails
+    /// if its reference count would overflow.
+    #[inline(always)]
+    fn kept(&self, place: usize) -> Result<FetchKey, AllocError>
+        requires { IsSome (slice_get self.now.prepared.memo place) }
+        ensures { IfOk result (λ key. IsAt self.now.prepared.memo place key) }
+    {
+        match self.memo.get_index(place) {
+            Some((key, _)) => key.try_copy(),
+            None => unreachable!(),
+        }
     }
 
     /// Whether the desk has begun all its cells, with what is prepared.
@@ -404,25 +425,27 @@ impl Desk {
         Ok(batch)
     }
 
-    /// Prepares the load of one more key. There are cells left. If memory runs out, the call fails, and part of the
-    /// step may be prepared.
+    /// Prepares the load of one more key, and answers with the reply the place at which the memo holds the key. There
+    /// are cells left. If memory runs out, the call fails, and part of the step may be prepared.
     // Inlined for the sake of loads that find their key.
     #[inline(always)]
-    fn put(&mut self, alloc: Global, key: &FetchKey) -> Result<LoadReply, AllocError>
+    fn put(&mut self, alloc: Global, key: &FetchKey) -> Result<(LoadReply, usize), AllocError>
         requires not_full { self.old.prepared.cells < self.old.prepared.rules.limits.max_cells }
         ensures book { self.new.book ≡ self.old.book }
         ensures rules { self.new.prepared.rules ≡ self.old.prepared.rules }
-        ensures put { IfOk result (λ reply. Puts self.old.prepared key.now reply self.new.prepared) }
+        ensures put { IfOk result (λ r. Puts self.old.prepared key.now r.0 self.new.prepared) }
+        ensures place { IfOk result (λ r. IsAt self.new.prepared.memo r.1 key.now) }
     {
         let cell = self.prepared.cells;
-        if let Some(held) = memo_and_batches::hold(&mut self.memo, key.try_copy()?, cell)? {
-            return Ok(LoadReply::Hit(held));
+        let (held, place) = memo_and_batches::hold(&mut self.memo, key.try_copy()?, cell)?;
+        if let Some(held) = held {
+            return Ok((LoadReply::Hit(held), place));
         }
         self.is_prepared = true;
         self.prepared.cells += 1;
         let forgotten = self.forgotten;
         let batch = self.join(alloc, key, cell, forgotten)?;
-        Ok(LoadReply::Fresh { cell, batch })
+        Ok((LoadReply::Fresh { cell, batch }, place))
     }
 
     /// Prepares a prime of the key. There are cells left. Fails if memory runs out.
@@ -433,7 +456,8 @@ impl Desk {
         ensures put { IfOk result (λ reply. PutsAlone self.old.prepared key.now reply self.new.prepared) }
     {
         let cell = self.prepared.cells;
-        if let Some(_) = memo_and_batches::hold(&mut self.memo, key.try_copy()?, cell)? {
+        let (held, _) = memo_and_batches::hold(&mut self.memo, key.try_copy()?, cell)?;
+        if let Some(_) = held {
             return Ok(DeskPrime::Kept);
         }
         self.is_prepared = true;
@@ -441,16 +465,18 @@ impl Desk {
         Ok(DeskPrime::Primed(cell))
     }
 
-    /// Prepares the load of one more key. If the desk rejects it, it takes back all that is prepared.
+    /// Prepares the load of one more key, and answers with the reply the place at which the memo holds the key. If the
+    /// desk rejects it, it takes back all that is prepared.
     // Inlined for the sake of loads that find their key.
     #[inline(always)]
-    fn load_step(&mut self, alloc: Global, key: &FetchKey) -> Result<LoadReply, DeskFault>
+    fn load_step(&mut self, alloc: Global, key: &FetchKey) -> Result<(LoadReply, usize), DeskFault>
         ensures book { self.new.book ≡ self.old.book }
         ensures rules { self.new.prepared.rules ≡ self.old.prepared.rules }
-        ensures reply { IfOk result (λ reply. (history : List Atom) → StandsFor self.old.prepared history
-            → reply ≡ load_reply self.old.prepared.rules history key.now) }
-        ensures stands { IfOk result (λ reply. (history : List Atom) → StandsFor self.old.prepared history
-            → StandsFor self.new.prepared (Load key.now reply ∷ history)) }
+        ensures reply { IfOk result (λ r. (history : List Atom) → StandsFor self.old.prepared history
+            → r.0 ≡ load_reply self.old.prepared.rules history key.now) }
+        ensures stands { IfOk result (λ r. (history : List Atom) → StandsFor self.old.prepared history
+            → StandsFor self.new.prepared (Load key.now r.0 ∷ history)) }
+        ensures place { IfOk result (λ r. IsAt self.new.prepared.memo r.1 key.now) }
         ensures within { OnOk result (self.new.prepared.cells ≤ self.new.prepared.rules.limits.max_cells) }
         ensures fault { IfErr result (RefusesStep self.old.prepared key.now) }
         ensures nothing_prepared { OnErr result (self.new.prepared ≡ self.old.book) }
@@ -458,12 +484,12 @@ impl Desk {
         if self.is_full() {
             let limit = self.limits.max_cells();
             return match self.found(key) {
-                Some(cell) => Ok(LoadReply::Hit(cell)),
+                Some((cell, place)) => Ok((LoadReply::Hit(cell), place)),
                 None => Err(self.refuse(DeskFault::CellsFull { limit })),
             };
         }
         match self.put(alloc, key) {
-            Ok(reply) => Ok(reply),
+            Ok(put) => Ok(put),
             Err(AllocError) => Err(self.refuse(DeskFault::OutOfMemory)),
         }
     }

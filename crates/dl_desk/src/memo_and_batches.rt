@@ -1,9 +1,10 @@
 //! Steps on the parts of a desk: its memo and its stored batches.
 
-ghost use Rattle.std.specs.Prelude.{◌≡◌, ◌≤◌, Ok, None, if◌then◌else◌, [], ◌∷◌, ◌++◌, map, vec_len, slice_get, IsSome, OnErr, IfOk};
+ghost use Rattle.std.specs.Prelude.{◌≡◌, ◌≤◌, None, if◌then◌else◌, [], ◌∷◌, ◌++◌, map, vec_len, slice_get, IsSome, OnErr, IfOk};
 ghost use Rattle.std.specs.Map.{lookup};
 ghost use Rattle.dl_values.specs.Key.{Key, key_eq};
 ghost use Rattle.dl_desk.specs.History.{has_member};
+ghost use Rattle.dl_desk.specs.Inside.MemoPlaces.{IsAt};
 ghost use Rattle.dl_desk.specs.Inside.Preparation.{prepared_batch, shown_batch, Same, members_of, NoneFrom, without};
 ghost use Rattle.dl_desk.specs.Inside.Marks.{IsAdded, MakesRoom};
 
@@ -38,24 +39,26 @@ pub(crate) fn show(batches: &mut Vec<StoredBatch>, from: usize, to: usize)
     }
 }
 
-/// The cell that the memo holds for the key. If it holds none, it holds the new cell from now on. If memory runs out,
-/// the call fails and leaves the memo as it was.
+/// The cell that the memo holds for the key. If it holds none, it holds the new cell from now on. Answers with it the
+/// place at which the memo holds the key. If memory runs out, the call fails and leaves the memo as it was.
 #[inline(always)]
 pub(crate) fn hold(
     memo: &mut IndexMap<FetchKey, u32, RandomState>,
     key: FetchKey,
     cell: u32,
-) -> Result<Option<u32>, AllocError>
-    ensures held { IfOk result (λ held. held ≡ lookup (key_eq key) memo.old.entries) }
-    ensures kept { IfOk result (λ held. IsSome held → memo.new.entries ≡ memo.old.entries) }
-    ensures noted { result ≡ Ok None → memo.new.entries ≡ memo.old.entries ++ (key, cell) ∷ [] }
+) -> Result<(Option<u32>, usize), AllocError>
+    ensures held { IfOk result (λ r. r.0 ≡ lookup (key_eq key) memo.old.entries) }
+    ensures kept { IfOk result (λ r. IsSome r.0 → memo.new.entries ≡ memo.old.entries) }
+    ensures noted { IfOk result (λ r. r.0 ≡ None → memo.new.entries ≡ memo.old.entries ++ (key, cell) ∷ []) }
+    ensures place { IfOk result (λ r. IsAt memo.new.entries r.1 key) }
     ensures err { OnErr result (memo.new.entries ≡ memo.old.entries) }
 {
     match memo.entry(key)? {
-        Entry::Occupied(entry) => Ok(Some(*entry.get())),
+        Entry::Occupied(entry) => Ok((Some(*entry.get()), entry.index())),
         Entry::Vacant(entry) => {
+            let place = entry.index();
             entry.insert(cell);
-            Ok(None)
+            Ok((None, place))
         }
     }
 }

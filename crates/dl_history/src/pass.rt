@@ -176,6 +176,14 @@ impl<L: LoaderName> Pass<L> {
         self.tickets.len()
     }
 
+    /// The cell of the load that got the ticket of this number.
+    pub fn ticket_cell(&self, number: usize) -> u32
+        requires { number < length self.now.trace.tickets }
+        ensures { IfSome (slice_get self.now.trace.tickets number) (λ ticket. result ≡ ticket.cell) }
+    {
+        self.tickets[number].cell
+    }
+
     /// Makes room for one call and `tickets` tickets more. The pass keeps all its entries and tickets. Fails if there
     /// is less room and memory runs out.
     pub fn reserve(&mut self, tickets: usize) -> Result<(), AllocError>

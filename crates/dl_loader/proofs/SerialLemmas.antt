@@ -1,17 +1,14 @@
 -- What a serial loader keeps through its calls.
-use Rattle.std.proofs.Common.{◌≡◌, ◌∙◌, sym, ap, subst, refl, ℕ, zero, suc, ◌+◌, ◌<◌, ◌⊎◌, inl, inr, Bool, true, false, List, [], ◌∷◌, ◌++◌, length, map, set, Option, Some, None}
+use Rattle.std.proofs.Common.{◌≡◌, ◌∙◌, sym, ap, refl, ℕ, zero, suc, ◌+◌, ◌<◌, ◌⊎◌, inl, inr, Bool, true, false, List, [], ◌∷◌, length, map, set, Option, Some, None}
 use Rattle.std.proofs.Common.{slice_get, get_or, option_map, IfSome, arith}
-use Rattle.std.proofs.lemmas.List.{map-append, map-set, length-map, length-set}
+use Rattle.std.proofs.lemmas.List.{length-set}
 use Rattle.std.proofs.lemmas.Option.{slice_get-map}
-use Rattle.std.specs.List.{All}
-use Rattle.dl_desk.specs.declared.reply.LoadReply.{LoadReply}
 use Rattle.dl_desk.specs.declared.event.Call.{Call}
 use Rattle.dl_desk.specs.declared.event.Ending.{Ending}
 use Rattle.dl_desk.specs.declared.event.Reply.{Reply}
 use Rattle.dl_history.specs.declared.pass.GivenTicket.{GivenTicket}
 use Rattle.dl_history.specs.Accounts.{account_of, accounts_of}
 use Rattle.dl_history.specs.Agreement.{Account}
-use Rattle.dl_history.specs.Entries.{cell_of_load}
 use Rattle.dl_history.specs.declared.fault.CloseFault.{CloseFault}
 use Rattle.dl_history.specs.declared.fault.CloseFault.TheVariants.{PassesMissing, Behind, Unshown, Unsettled, OutOfMemory}
 use Rattle.dl_history.specs.Flags.{KnownFlags, known_flags}
@@ -20,9 +17,8 @@ use Rattle.dl_loader.specs.Book.{Book, book}
 use Rattle.dl_loader.specs.EventEffect.{Makes, event_of, loads_of}
 use Rattle.dl_loader.specs.CloseRefusals.{RefusesClose}
 use Rattle.dl_desk.specs.Service.{Service}
-use Rattle.dl_loader.specs.SerialLoader.{AreNumbered, IsSerial, book_if, serial, ticket_cells}
+use Rattle.dl_loader.specs.SerialLoader.{AreNumbered, IsSerial, book_if, serial}
 use Rattle.dl_loader.proofs.AdditionLemmas.{tickets_caller}
-use Rattle.dl_loader.proofs.NewTickets.{tickets_are, new_ticket}
 
 -- a book that isn't stopped
 pub as_running : (b : Book) → b.flags.stopped ≡ false → book_if false b ≡ b
@@ -71,63 +67,17 @@ pub new_count : (k n : ℕ) → length (new_traces k n) ≡ n
 new_count k zero = refl
 new_count k (suc n) = ap suc (new_count (k + 1) n)
 
--- ---- the cells of tickets
+-- ---- what a call and a read leave
 
--- callers that have made no call have no tickets
-pub none_given : {X : Type 0} (f : X → List ℕ) (k n : ℕ) (xs : List X) → length xs ≡ n → All (λ x. f x ≡ []) xs
-    → map ticket_cells (new_traces k n) ≡ map f xs
-none_given f k zero [] long all = refl
-none_given f k zero (x ∷ xs) long all = absurd (omega arith)
-none_given f k (suc n) [] long all = absurd (omega arith)
-none_given f k (suc n) (x ∷ xs) long all =
-    let head : f x ≡ [] = all 0 x (omega arith) in
-    let rest : map ticket_cells (new_traces (k + 1) n) ≡ map f xs = none_given f (k + 1) n xs (omega arith) (λ i d low. all (suc i) d (omega arith)) in
-    rw (head, rest) refl
-
--- the cell of a ticket, by its number
-pub given_at : (gs : List GivenTicket) (n c : ℕ) → slice_get (map (λ g. g.cell) gs) n ≡ Some c → (seen : Bool) × (slice_get gs n ≡ Some (given c seen))
-given_at [] n c got = absurd (let bad : ◌≡◌ {A = Option ℕ} None (Some c) = got in cc)
-given_at (g ∷ gs) zero c got =
-    let same : g.cell ≡ c = (let both : ◌≡◌ {A = Option ℕ} (Some g.cell) (Some c) = got in cc) in
-    (g.seen, ap (λ (x : ℕ). Some (given x g.seen)) same)
-given_at (g ∷ gs) (suc n) c got = given_at gs n c got
-
-cells_of_new : (rs : List LoadReply) → map (λ (g : GivenTicket). g.cell) (map new_ticket rs) ≡ map cell_of_load rs
-cells_of_new [] = refl
-cells_of_new (r ∷ rs) = ap (λ (cs : List ℕ). cell_of_load r ∷ cs) (cells_of_new rs)
-
--- a call adds the cells of the loads that it answers
-pub cells_more : {b now : Book} {p new : Trace} {c : Call} {r : Reply} → Makes b p c r now new
-    → ticket_cells new ≡ ticket_cells p ++ map cell_of_load (loads_of r)
-cells_more {b} {now} {p} {new} {c} {r} made =
-    let called : Trace = with_call p (length b.history) (event_of p c r) in
-    let all : new.tickets ≡ p.tickets ++ map new_ticket (loads_of r) = ap (λ (q : Trace). q.tickets) made.trace ∙ tickets_are called (loads_of r) in
-    ap (map (λ (g : GivenTicket). g.cell)) all
-    ∙ (map-append (λ (g : GivenTicket). g.cell) p.tickets (map new_ticket (loads_of r)) ∙ ap (λ (cs : List ℕ). ticket_cells p ++ cs) (cells_of_new (loads_of r)))
-
--- and stays its caller's
+-- a call leaves the trace its caller's
 pub caller_stays : {b now : Book} {p new : Trace} {c : Call} {r : Reply} → Makes b p c r now new → new.caller ≡ p.caller
 caller_stays {b} {now} {p} {new} {c} {r} made =
     ap (λ (q : Trace). q.caller) made.trace ∙ tickets_caller (with_call p (length b.history) (event_of p c r)) (loads_of r)
 
--- a read changes neither the caller nor the cells of its tickets
+-- and so does a read
 pub saw_caller : (p : Trace) (n c : ℕ) (e : Ending) (seen : Bool) → (with_saw p n c e seen).caller ≡ p.caller
 saw_caller p n c e true = refl
 saw_caller p n c e false = refl
-
-cells_seen : (gs : List GivenTicket) (n c : ℕ) → slice_get gs n ≡ Some (given c false)
-    → map (λ (g : GivenTicket). g.cell) (set gs n (given c true)) ≡ map (λ (g : GivenTicket). g.cell) gs
-cells_seen [] n c got = refl
-cells_seen (g ∷ gs) zero c got =
-    let same : g ≡ given c false = (let both : ◌≡◌ {A = Option GivenTicket} (Some g) (Some (given c false)) = got in cc) in
-    let cell : c ≡ g.cell = sym (ap (λ (x : GivenTicket). x.cell) same) in
-    ap (λ (x : ℕ). x ∷ map (λ (y : GivenTicket). y.cell) gs) cell
-cells_seen (g ∷ gs) (suc n) c got = ap (λ (cs : List ℕ). g.cell ∷ cs) (cells_seen gs n c got)
-
-pub saw_cells : (p : Trace) (n c : ℕ) (e : Ending) (seen : Bool) → slice_get p.tickets n ≡ Some (given c seen)
-    → ticket_cells (with_saw p n c e seen) ≡ ticket_cells p
-saw_cells p n c e true gave = refl
-saw_cells p n c e false gave = cells_seen p.tickets n c gave
 
 -- ---- what stands at a place
 
@@ -147,65 +97,36 @@ own_trace [] i low = absurd (omega arith)
 own_trace (p ∷ ps) zero low = (p, refl)
 own_trace (p ∷ ps) (suc i) low = own_trace ps i (omega arith)
 
--- the cells of a caller's tickets
-pub own_cells : {V : Type 0} (f : V → List ℕ) (ps : List Trace) (vs : List V) (i : ℕ) (v : V) (p : Trace) → map ticket_cells ps ≡ map f vs
-    → v ≡ get_or vs i v → i < length vs → slice_get ps i ≡ Some p → f v ≡ ticket_cells p
-own_cells f ps vs i v p are is low own =
-    let found : slice_get (map f vs) i ≡ Some (f v) = part_at f vs i v is low in
-    let given : slice_get (map ticket_cells ps) i ≡ Some (ticket_cells p) = slice_get-map ticket_cells ps i ∙ ap (option_map ticket_cells) own in
-    let both : ◌≡◌ {A = Option (List ℕ)} (Some (f v)) (Some (ticket_cells p)) =
-    sym found ∙ (ap (λ (css : List (List ℕ)). slice_get css i) (sym are) ∙ given) in
-    cc
+given_at : (gs : List GivenTicket) (n c : ℕ) → n < length gs → IfSome (slice_get gs n) (λ g. c ≡ g.cell) → (seen : Bool) × (slice_get gs n ≡ Some (given c seen))
+given_at [] n c low told = absurd (omega arith)
+given_at (g ∷ gs) zero c low told = (g.seen, ap (λ (x : ℕ). Some (given x g.seen)) (sym told))
+given_at (g ∷ gs) (suc n) c low told = given_at gs n c (omega arith) told
 
--- a ticket that a caller has is among them
-pub number_low : (ps : List Trace) (i n : ℕ) (p : Trace) (cs : List ℕ) → slice_get ps i ≡ Some p
-    → IfSome (slice_get ps i) (λ q. n < length q.tickets) → cs ≡ ticket_cells p → n < length cs
-number_low ps i n p cs at low are =
-    let some : n < length p.tickets = rw at at low in
-    let count : length cs ≡ length p.tickets = ap length are ∙ length-map p.tickets (λ (g : GivenTicket). g.cell) in
-    omega arith
-
--- and was given for its cell
-pub gave_at : (p : Trace) (n c : ℕ) (cs : List ℕ) → cs ≡ ticket_cells p → c ≡ get_or cs n c → n < length cs
+-- a ticket that a caller has was given for its cell
+pub gave_at : (p : Trace) (n c : ℕ) → n < length p.tickets → IfSome (slice_get p.tickets n) (λ g. c ≡ g.cell)
     → (seen : Bool) × (slice_get p.tickets n ≡ Some (given c seen))
-gave_at p n c cs are is low = given_at p.tickets n c (ap (λ (xs : List ℕ). slice_get xs n) (sym are) ∙ item_at cs n c is low)
+gave_at p n c low told = given_at p.tickets n c low told
+
+-- the tickets of the trace of a caller are so many
+pub number_low : (ps : List Trace) (i n : ℕ) (p : Trace) → slice_get ps i ≡ Some p → IfSome (slice_get ps i) (λ q. n < length q.tickets) → n < length p.tickets
+number_low ps i n p at low = rw at at low
 
 -- ---- a trace is replaced
 
-set_back : (css : List (List ℕ)) (n : ℕ) (cs : List ℕ) → slice_get css n ≡ Some cs → set css n cs ≡ css
-set_back [] n cs at = refl
-set_back (ds ∷ css) zero cs at =
-    let same : ds ≡ cs = (let both : ◌≡◌ {A = Option (List ℕ)} (Some ds) (Some cs) = at in cc) in
-    ap (λ (xs : List ℕ). xs ∷ css) (sym same)
-set_back (ds ∷ css) (suc n) cs at = ap (λ (xs : List (List ℕ)). ds ∷ xs) (set_back css n cs at)
-
--- by one of the same caller, with the cells of its tickets
-pub serial_set : {callers parts : ℕ} {own : Service} {b now : Book} {ps : List Trace} {css : List (List ℕ)} (n : ℕ) (p q : Trace)
-    → IsSerial callers parts own (serial b ps) css → now.flags.stopped ≡ false → slice_get ps n ≡ Some p → q.caller ≡ p.caller
-    → IsSerial callers parts own (serial now (set ps n q)) (set css n (ticket_cells q))
-serial_set {ps = ps} {css} n p q is running at caller =
+-- by one of the same caller
+pub serial_set : {callers parts : ℕ} {own : Service} {b now : Book} {ps : List Trace} (n : ℕ) (p q : Trace)
+    → IsSerial callers parts own (serial b ps) → now.flags.stopped ≡ false → slice_get ps n ≡ Some p → q.caller ≡ p.caller
+    → IsSerial callers parts own (serial now (set ps n q))
+serial_set {ps = ps} n p q is running at caller =
     let long = length-set ps n q in
-    let lists = length-set css n (ticket_cells q) in
     record {
       callers_are = is.callers_are;
       parts_are = is.parts_are;
       answers = is.answers;
       unstopped = running;
       each = long ∙ is.each;
-      lists = lists ∙ is.lists;
       numbered = numbered_set ps n q is.numbered (caller ∙ is.numbered n p at);
-      cells_are = map-set ticket_cells ps n q ∙ ap (λ (xs : List (List ℕ)). set xs n (ticket_cells q)) is.cells_are;
     }
-
--- by one with the same tickets
-pub serial_same : {callers parts : ℕ} {own : Service} {b now : Book} {ps : List Trace} {css : List (List ℕ)} (n : ℕ) (p q : Trace)
-    → IsSerial callers parts own (serial b ps) css → now.flags.stopped ≡ false → slice_get ps n ≡ Some p → q.caller ≡ p.caller
-    → ticket_cells q ≡ ticket_cells p → IsSerial callers parts own (serial now (set ps n q)) css
-serial_same {callers} {parts} {own} {now = now} {ps} {css} n p q is running at caller tickets =
-    let found : slice_get css n ≡ Some (ticket_cells p) =
-    ap (λ (xs : List (List ℕ)). slice_get xs n) (sym is.cells_are) ∙ (slice_get-map ticket_cells ps n ∙ ap (option_map ticket_cells) at) in
-    let stays : set css n (ticket_cells q) ≡ css = ap (λ (cs : List ℕ). set css n cs) tickets ∙ set_back css n (ticket_cells p) found in
-    subst (λ (xs : List (List ℕ)). IsSerial callers parts own (serial now (set ps n q)) xs) stays (serial_set n p q is running at caller)
 
 -- ---- the close
 

@@ -91,7 +91,7 @@ module _ (T : RattleType) (n : name.Ghosts T.Denot) (l : ledger.Ghosts T.Denot) 
         as_row_send (Book.the_field T n l) Book-send,
         (
           as_row_send (Vec.the_field (Pass.the_row T n l) Heap.the_row ghosts) (Vec-send _ (search (pass.the_send) depth 10)),
-          (search (as_row_send, owners_cross, sendable) depth 20, (search (as_row_send, sendable) depth 10, tt)),
+          (search (as_row_send, sendable) depth 10, tt),
         ),
       ),
     ),

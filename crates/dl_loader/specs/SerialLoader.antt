@@ -1,5 +1,5 @@
 -- What contracts see of a serial loader, what it keeps, and what its calls leave.
-use Rattle.std.specs.Prelude.{◌≡◌, ℕ, ◌≤◌, Bool, false, List, length, map, set, Some, Option, slice_get}
+use Rattle.std.specs.Prelude.{◌≡◌, ℕ, Bool, false, List, length, set, Some, Option, slice_get}
 use Rattle.dl_values.specs.declared.job.Job.{Job}
 use Rattle.dl_desk.specs.declared.event.Call.{Call}
 use Rattle.dl_desk.specs.declared.event.Ending.{Ending}
@@ -8,8 +8,8 @@ use Rattle.dl_desk.specs.Service.{Service, AnswersEach}
 use Rattle.dl_history.specs.declared.fault.CallFault.{CallFault}
 use Rattle.dl_history.specs.Flags.{known_flags}
 use Rattle.dl_history.specs.Pass.{Trace, given, with_saw}
-use Rattle.dl_loader.specs.Book.{Book, Keeps, book}
-use Rattle.dl_loader.specs.EventEffect.{Makes, loads_of}
+use Rattle.dl_loader.specs.Book.{Book, book}
+use Rattle.dl_loader.specs.EventEffect.{Makes}
 use Rattle.dl_loader.specs.Refusals.{IsRefusal}
 
 -- what contracts see: the book, and the traces of the callers, by their numbers
@@ -26,32 +26,21 @@ book_if stopped b = book b.history b.desk b.cells (known_flags stopped b.flags.r
 
 -- ---- what it keeps
 
--- the cells of a caller's tickets, in order
-abbrev pub ticket_cells : Trace → List ℕ
-ticket_cells p = map (λ g. g.cell) p.tickets
-
 -- each of the traces is that of the caller whose number is its place
 abbrev pub AreNumbered : List Trace → Type 0
 AreNumbered traces = (n : ℕ) (p : Trace) → slice_get traces n ≡ Some p → p.caller ≡ n
 
--- what holds of the fields: each caller has a trace and a part of the ledger, the cells of each caller's tickets are known, and
--- an answer of the source has an outcome for each key, unless it breaks
-pub record IsSerial (callers parts : ℕ) (own : Service) (fields : Serial) (cells : List (List ℕ)) : Type 0 where
+-- what holds of the fields: each caller has a trace and a part of the ledger, and an answer of the source has an outcome for
+-- each key, unless it breaks
+pub record IsSerial (callers parts : ℕ) (own : Service) (fields : Serial) : Type 0 where
   pub callers_are : callers ≡ own.callers
   pub parts_are : parts ≡ own.callers
   pub answers : AnswersEach own.answer
   pub unstopped : fields.book.flags.stopped ≡ false
   pub each : length fields.traces ≡ own.callers
-  pub lists : length cells ≡ own.callers
   pub numbered : AreNumbered fields.traces
-  pub cells_are : map ticket_cells fields.traces ≡ cells
 
 -- ---- what calls leave
-
--- a call of this kind answers so many loads at most
-abbrev pub AnswersFew : {R : Type 0} → Service → Call → (R → Reply) → ℕ → Type 0
-AnswersFew {R} service call told most =
-    (before now : Book) (old new : Trace) (r : R) → Keeps service now → Makes before old call (told r) now new → length (loads_of (told r)) ≤ most
 
 -- A call of a caller is made: its event is the last of the book, and the last call of the caller. No other caller's trace changes.
 pub record IsMade (caller : ℕ) (call : Call) (reply : Reply) (old new : Serial) : Type 0 where

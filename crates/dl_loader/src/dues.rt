@@ -2,6 +2,7 @@
 
 ghost use Rattle.std.specs.Prelude.{◌≡◌, ℕ, ◌+◌, ◌<◌, ◌≤◌, IfOk, IsSome, Some, length, map};
 ghost use Rattle.dl_loader.specs.Inside.Dues.{AreDue, AreGiven, CanEnd, outcome_by};
+ghost use Rattle.dl_loader.specs.Inside.DueLists.{due_list};
 ghost use Rattle.dl_history.specs.Journal.{refusals};
 
 use dl_desk::{Outcome, Outcomes};
@@ -50,15 +51,41 @@ pub(crate) fn dues(
     Ok(dues)
 }
 
-/// Gives the cells their dues, and counts those that refuse.
+/// How many dues there are.
+#[inline(always)]
+pub(crate) fn count(dues: &Option<Vec<Due>>) -> usize
+    ensures { result ≡ length (due_list dues.now) }
+{
+    match dues {
+        None => 0,
+        Some(dues) => dues.len(),
+    }
+}
+
+/// Gives the cells their dues, if there are any, and counts those that refuse.
 // Inlined for the sake of calls that end no cell.
 #[inline(always)]
-#[tactic(auto, using(crate::proofs::DueLemmas::given_none))]
 pub(crate) fn give<L: LoaderName>(
     journal: &mut Journal<L>,
     rows: &CellRows<L>,
-    dues: Vec<Due>,
+    dues: Option<Vec<Due>>,
 ) -> usize
+    requires fits { length journal.old.cells ≤ L.service.rules.limits.max_cells }
+    requires can { CanEnd (map (λ d. d.cell) (due_list dues)) journal.old.cells }
+    ensures history { journal.new.history ≡ journal.old.history }
+    ensures given { AreGiven (due_list dues) journal.old.cells journal.new.cells }
+    ensures refused { refusals journal.new.cells ≡ refusals journal.old.cells + result }
+    ensures few { result ≤ length (due_list dues) }
+{
+    match dues {
+        None => 0,
+        Some(dues) => give_each(journal, rows, dues),
+    }
+}
+
+/// Gives each of the cells its due, and counts those that refuse.
+#[tactic(auto, using(crate::proofs::DueLemmas::given_none))]
+fn give_each<L: LoaderName>(journal: &mut Journal<L>, rows: &CellRows<L>, dues: Vec<Due>) -> usize
     requires fits { length journal.old.cells ≤ L.service.rules.limits.max_cells }
     requires can { CanEnd (map (λ d. d.cell) dues.items) journal.old.cells }
     ensures history { journal.new.history ≡ journal.old.history }
@@ -66,9 +93,6 @@ pub(crate) fn give<L: LoaderName>(
     ensures refused { refusals journal.new.cells ≡ refusals journal.old.cells + result }
     ensures few { result ≤ length dues.items }
 {
-    if dues.is_empty() {
-        return 0;
-    }
     let mut refused = 0;
     for due in dues {
         let Due { cell, ending } = due;

@@ -7,6 +7,7 @@ ghost use Rattle.dl_desk.specs.BatchBook as book;
 ghost use Rattle.dl_desk.specs.declared.event.Call.{Call};
 ghost use Rattle.dl_desk.specs.declared.event.Reply.{Reply};
 ghost use Rattle.dl_desk.specs.Legal.{call_of};
+ghost use Rattle.dl_loader.specs.Inside.DueLists.{due_list};
 ghost use Rattle.dl_loader.specs.Inside.Preparation.{IsPrepared, Refuses, Steps};
 ghost use Rattle.dl_loader.specs.EventEffect.{loads_of};
 
@@ -22,13 +23,13 @@ pub(crate) use keys::{Clear, Dispatch, Prime};
 pub(crate) use loads::{Load, LoadMany};
 use std::alloc::Global;
 
-/// What a call has prepared: the call and the reply of its event, the ends that it gives to cells, and what the desk
-/// replies.
+/// What a call has prepared: the call and the reply of its event, the ends that it gives to cells, if it gives any, and
+/// what the desk replies.
 #[derive(Drop)]
 pub(crate) struct Prepared<R> {
     pub(crate) call: Call,
     pub(crate) reply: Reply,
-    pub(crate) dues: Vec<Due>,
+    pub(crate) dues: Option<Vec<Due>>,
     pub(crate) answer: R,
 }
 
@@ -67,7 +68,7 @@ pub(crate) trait EventCall {
         ensures reply { IfOk result (λ p. p.reply ≡ told p.answer) }
         ensures prepared { IfOk result (λ p.
             IsPrepared desk.old.book (record { call = call self.now; job = job self.now; brings = brings self.now })
-            (record { at = at; reply = p.reply; dues = p.dues.items })) }
+            (record { at = at; reply = p.reply; dues = due_list p.dues })) }
         ensures ready { OnOk result (ready self.now desk.new) }
         ensures fault { IfErr result (Refuses desk.old.book (call self.now) (job self.now)) };
 

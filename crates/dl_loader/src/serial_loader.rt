@@ -1,11 +1,9 @@
 //! A loader whose holder makes the calls of all its callers, one at a time.
 
-ghost use Rattle.std.specs.Prelude.{◌≡◌, ◌+◌, ◌<◌, ◌≤◌, ◌++◌, [], true, false, IfErr, IfNone, IfOk, IfSome, List, MatchBool, OnErr, OnOk, length, map, slice_get, vec_capacity};
-ghost use Rattle.std.specs.List.{All};
+ghost use Rattle.std.specs.Prelude.{◌≡◌, ◌+◌, ◌<◌, ◌≤◌, [], true, false, IfErr, IfNone, IfOk, IfSome, List, MatchBool, OnErr, OnOk, length, slice_get};
 ghost use Rattle.dl_desk.specs.BatchBook.{StandsFor, batch_view};
 ghost use Rattle.dl_desk.specs.History.{Atom, begun};
 ghost use Rattle.dl_history.specs.declared.fault.StartFault.TheVariants.{OutOfMemory};
-ghost use Rattle.dl_history.specs.Entries.{cell_of_load};
 ghost use Rattle.dl_history.specs.Flags.{known_flags};
 ghost use Rattle.dl_history.specs.Journal.{refusals};
 ghost use Rattle.dl_history.specs.Pass.{new_traces};
@@ -14,7 +12,7 @@ ghost use Rattle.dl_loader.specs.EventEffect.{Makes};
 ghost use Rattle.dl_loader.specs.Inside.Preparation.{ended_count};
 ghost use Rattle.dl_loader.specs.Opening.{Names};
 ghost use Rattle.dl_loader.specs.Refusals.{IsRefusal};
-ghost use Rattle.dl_loader.specs.SerialLoader.{AnswersFew, AreNumbered, HasSeen, IsMade, IsRefused, book_if, serial};
+ghost use Rattle.dl_loader.specs.SerialLoader.{AreNumbered, HasSeen, IsMade, IsRefused, book_if, serial};
 
 mod calls;
 mod close;
@@ -25,7 +23,7 @@ use crate::loader::deal;
 use crate::opening::Opening;
 use crate::reply::Settled;
 use dl_desk::{BatchView, LoadReply};
-use dl_history::{CallFault, CellRows, LoaderName, Pass, StartFault, Ticket, load_cell};
+use dl_history::{CallFault, CellRows, LoaderName, Pass, StartFault, Ticket};
 use dl_source::Source;
 use std::alloc::{AllocError, Global};
 use std::marker::Model;
@@ -42,8 +40,6 @@ pub struct SerialLoader<L: LoaderName> {
     book: Book<L>,
     // By the number of the caller.
     passes: Vec<Pass<L>>,
-    // The cells of the tickets of each caller.
-    cells: Vec<Vec<u32>>,
     stopped: bool,
 }
 
@@ -54,13 +50,11 @@ impl<L: LoaderName> Drop for SerialLoader<L> {
             rows,
             book,
             passes,
-            cells,
             stopped: _,
         } = self;
-        drop(rows);
         drop(book);
+        drop(rows);
         drop(passes);
-        drop(cells);
     }
 }
 
@@ -78,7 +72,7 @@ impl<L: LoaderName> Model for SerialLoader<L> {
 
     ghost view = { λ s. serial (book_if s.stopped s.book) (map (λ p. p.trace) s.passes.items) };
 
-    ghost invariant = { λ s. IsSerial s.callers L.parts L.service (serial s.book (map (λ p. p.trace) s.passes.items)) (map (λ c. c.items) s.cells.items) };
+    ghost invariant = { λ s. IsSerial s.callers L.parts L.service (serial s.book (map (λ p. p.trace) s.passes.items)) };
 }
 
 impl<L: LoaderName> SerialLoader<L> {
@@ -109,14 +103,12 @@ impl<L: LoaderName> SerialLoader<L> {
         } = opening;
         let (calls, all) = blank.open::<L>();
         let passes = deal(alloc, callers, all)?;
-        let cells = no_tickets(alloc, callers)?;
         let book = Book::new(alloc, hashing, limits, tables, calls);
         let loader = SerialLoader {
             callers,
             rows: CellRows::new(limits, log, outcomes, flags),
             book,
             passes,
-            cells,
             stopped: false,
         };
         Ok(loader)
@@ -174,7 +166,7 @@ impl<L: LoaderName> SerialLoader<L> {
         ensures seen { IfOk result (λ seen. MatchBool seen (HasSeen caller number self.old self.new) (self.new ≡ self.old)) }
         ensures unchanged { OnErr result (self.new ≡ self.old) }
     {
-        let cell = self.cells[caller as usize][number];
+        let cell = self.passes[caller as usize].ticket_cell(number);
         if cell >= self.rows.limits().max_cells() {
             return Ok(false);
         }
@@ -187,30 +179,24 @@ impl<L: LoaderName> SerialLoader<L> {
         Ok(true)
     }
 
-    /// Makes a call of a caller, which gets a ticket for each load that the call answers: `tickets` at most.
+    /// Makes a call of a caller, which gets a ticket for each load that the call answers.
     #[inline(always)]
     fn call<C: EventCall>(
         &mut self,
         alloc: Global,
         caller: u32,
         call: &C,
-        tickets: usize,
     ) -> Result<(C::Reply, Settled), CallFault>
         requires caller { caller < length self.old.traces }
         requires answers { C.brings call.now L.service.answer }
-        requires few { AnswersFew L.service (C.call call.now) C.told tickets }
         ensures made { IfOk result (λ r. IsMade caller (C.call call.now) (C.told r.0) self.old self.new) }
         ensures refused { IfOk result (λ r. refusals self.new.book.cells ≡ refusals self.old.book.cells + r.1.refused) }
         ensures each { IfOk result (λ r. r.1.shown + r.1.refused ≡ ended_count (C.job call.now) (C.told r.0)) }
         ensures fault { IfErr result (IsRefused L.service caller (C.call call.now) (C.job call.now) self.old) }
         ensures unchanged { OnErr result (self.new ≡ self.old) }
     {
-        let cells = &mut self.cells[caller as usize];
-        cells.reserve(tickets)?;
         let pass = &mut self.passes[caller as usize];
         let (reply, ended) = make(alloc, self.stopped, &self.rows, &mut self.book, pass, call)?;
-        self.book.keeps();
-        note(cells, C::loads(&reply));
         Ok((reply, ended))
     }
 }
@@ -238,26 +224,4 @@ fn make<L: LoaderName, C: EventCall>(
         return Err(CallFault::Stopped);
     }
     book.record(alloc, rows, pass, call)
-}
-
-/// Adds the cells of loads, for which there is room.
-fn note(cells: &mut Vec<u32>, loads: &[LoadReply])
-    requires { length cells.old.items + length loads.now ≤ vec_capacity cells.old }
-    ensures { cells.new.items ≡ cells.old.items ++ map cell_of_load loads.now }
-{
-    for load in loads {
-        cells.push_reserved(load_cell(*load));
-    }
-}
-
-/// A list for the tickets of each caller, none of which has one. Fails if memory runs out.
-fn no_tickets(alloc: Global, callers: u32) -> Result<Vec<Vec<u32>>, AllocError>
-    ensures each { IfOk result (λ lists. length lists.items ≡ callers) }
-    ensures none { IfOk result (λ lists. All (λ c. c.items ≡ []) lists.items) }
-{
-    let mut lists = Vec::with_capacity(alloc, callers as usize)?;
-    for _ in 0..callers {
-        lists.push_reserved(Vec::new(alloc));
-    }
-    Ok(lists)
 }

@@ -1,10 +1,12 @@
--- What is kept of a loader may cross threads: a loader with the passes of its callers, and the history that it left.
+-- What is kept of a loader may cross threads: a loader with the passes of its callers, the history that it left, and a key.
 use denote.RattleType.{RattleType}
 use denote.Param.SendFields.{declared_send, as_row_send}
 use denote.Param.Send.{IsSend, sendable}
 use Rattle.std.proofs.Crossing.{crosses as owners_cross}
 use Rattle.std.specs.declared.sync.ledger.Ledger as ledger
 use Rattle.std.specs.contracts.option.Option as Option
+use Rattle.dl_values.proofs.key.FetchKey.TheSendSync as key
+use Rattle.dl_values.specs.contracts.key.FetchKey as FetchKey
 use Rattle.dl_history.specs.declared.name.LoaderName as name
 use Rattle.dl_history.specs.contracts.history.History as History
 use Rattle.dl_history.proofs.ThreadSafety.{CellState-send, Ending-send, Ending-sync, Event-send, Event-sync}
@@ -85,7 +87,10 @@ module _ (T : RattleType) (n : name.Ghosts T.Denot) (l : ledger.Ghosts T.Denot) 
   kept_send : IsSend (kept.the_row T n l)
   kept_send = declared_send (kept.the_type T n l) (
     as_row_send (Option.the_field (SerialLoader.the_row T n l)) (search (loader_send, owners_cross, sendable) depth 20),
-    (as_row_send (Option.the_field History.the_row) (search (History-send, owners_cross, sendable) depth 20), tt),
+    (
+      as_row_send (Option.the_field History.the_row) (search (History-send, owners_cross, sendable) depth 20),
+      (as_row_send (Option.the_field FetchKey.the_row) (search (key.the_send, owners_cross, sendable) depth 20), tt),
+    ),
   )
 
   pub Kept-send : IsSend (Kept.the_row T n l)

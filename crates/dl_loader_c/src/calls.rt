@@ -12,10 +12,12 @@ ghost use Rattle.dl_loader_c.specs.Named.{IsHosted, named_by};
 use crate::answers::{LoadTicket, primed};
 use crate::codes::call_code;
 use crate::handle::{Handle, HeldOf, take};
+use crate::kept::Kept;
 use dl_c_values::answers::Loaded;
 use dl_c_values::box_parts::BoxParts;
 use dl_c_values::codes::{CLOSED, DONE, NO_CALLER, OUT_OF_MEMORY};
 use dl_c_values::key_texts::key_of;
+use dl_desk::FetchKey;
 use dl_host::mark;
 use dl_loader::{LoaderName, SerialLoader};
 use std::alloc::Global;
@@ -59,8 +61,9 @@ fn load<L: LoaderName>(
     ensures loader { OnLoader held.kept result.0.kept (AnswersLoad L.service caller (record { table = table.now; id = id.now }) result.1) (result.1 ≡ no_ticket CLOSED) }
 {
     let mut kept = held.release().into_box();
-    let answer = match &mut kept.loader {
-        Some(loader) => load_key(alloc, loader, caller, table, id),
+    let Kept { loader, spare, .. } = &mut *kept;
+    let answer = match loader {
+        Some(loader) => load_key(alloc, loader, spare, caller, table, id),
         None => LoadTicket::refused(CLOSED),
     };
     (HeldOf::<L>::hold(BoxParts::of(kept)), answer)
@@ -70,13 +73,14 @@ fn load<L: LoaderName>(
 fn load_key<L: LoaderName>(
     alloc: Global,
     loader: &mut SerialLoader<L>,
+    spare: &mut Option<FetchKey>,
     caller: u32,
     table: &[u8],
     id: &[u8],
 ) -> LoadTicket
     ensures { AnswersLoad L.service caller (record { table = table.now; id = id.now }) result loader.old loader.new }
 {
-    let key = match key_of(alloc, None, table, id) {
+    let key = match key_of(alloc, spare.take(), table, id) {
         Ok(key) => key,
         Err(code) => return LoadTicket::refused(code),
     };
@@ -84,7 +88,9 @@ fn load_key<L: LoaderName>(
         return LoadTicket::refused(NO_CALLER);
     }
     let ticket = loader.tickets(caller);
-    match loader.load(alloc, caller, &key) {
+    let loaded = loader.load(alloc, caller, &key);
+    *spare = Some(key);
+    match loaded {
         Ok(reply) => {
             loader.keeps();
             LoadTicket::of_load(ticket, reply)

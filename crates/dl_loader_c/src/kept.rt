@@ -5,22 +5,30 @@ ghost use Rattle.dl_loader_c.specs.Lives.{AnswersClose};
 
 use crate::codes::close_code;
 use dl_c_values::codes::{CLOSED, DONE};
+use dl_desk::FetchKey;
 use dl_history::History;
 use dl_loader::{LoaderName, SerialLoader};
 use std::alloc::Global;
 use std::marker::Model;
 
-/// A loader that is open, or the history of one that is closed.
+/// A loader that is open, or the history of one that is closed, and the key of the last load. The next load may use the
+/// memory of that key.
 pub struct Kept<L: LoaderName> {
     pub(crate) loader: Option<SerialLoader<L>>,
     pub(crate) history: Option<History>,
+    pub(crate) spare: Option<FetchKey>,
 }
 
 impl<L: LoaderName> Drop for Kept<L> {
     fn drop(self) {
-        let Kept { loader, history } = self;
+        let Kept {
+            loader,
+            history,
+            spare,
+        } = self;
         drop(loader);
         drop(history);
+        drop(spare);
     }
 }
 

@@ -124,6 +124,7 @@ fn start<L: LoaderName>(alloc: Global, opening: Opening<'_, HostSource>) -> Resu
     let kept = Kept {
         loader: Some(loader),
         history: None,
+        spare: None,
     };
     match Box::new(alloc, kept) {
         Ok(kept) => Ok(HeldOf::<L>::hold(BoxParts::of(kept))),

@@ -37,7 +37,7 @@ impl Desk {
         self.discard();
         let mut replies = Vec::with_capacity(alloc, keys.len())?;
         for key in keys {
-            replies.push_reserved(self.load_step(alloc, key)?);
+            replies.push_reserved(self.load_step(alloc, key)?.0);
         }
         Ok(replies)
     }
@@ -63,7 +63,42 @@ impl Desk {
         ensures nothing_prepared { OnErr result (self.new.prepared ≡ self.old.book) }
     {
         self.discard();
-        self.load_step(alloc, key)
+        match self.load_step(alloc, key) {
+            Ok((reply, _)) => Ok(reply),
+            Err(fault) => Err(fault),
+        }
+    }
+
+    /// Prepares the load of a key, as [`prepare_load`](Desk::prepare_load) does, and gives you a copy of the key as well.
+    /// It shares the texts of the key that the memo holds, so if you keep it, you needn't keep the key that you load.
+    ///
+    /// # Errors
+    /// Those of [`load`](Desk::load).
+    #[inline(always)]
+    pub fn prepare_kept_load(
+        &mut self,
+        alloc: Global,
+        key: &FetchKey,
+    ) -> Result<(LoadReply, FetchKey), DeskFault>
+        ensures book { self.new.book ≡ self.old.book }
+        ensures rules { self.new.prepared.rules ≡ self.old.book.rules }
+        ensures key { IfOk result (λ r. r.1 ≡ key.now) }
+        ensures reply { IfOk result (λ r. (history : List Atom) → StandsFor self.old.book history
+            → r.0 ≡ load_reply self.old.book.rules history key.now) }
+        ensures stands { OnOk result ((history : List Atom) → StandsFor self.old.book history
+            → StandsFor self.new.prepared (after self.old.book.rules history (Load key.now))) }
+        ensures accepted { OnOk result ((history : List Atom) → StandsFor self.old.book history
+            → refusal self.old.book.rules history (Load key.now) ≡ None) }
+        ensures fault { IfErr result (λ fault. (history : List Atom) → StandsFor self.old.book history
+            → IsRefusal self.old.book.rules history (Load key.now) fault) }
+        ensures nothing_prepared { OnErr result (self.new.prepared ≡ self.old.book) }
+    {
+        self.discard();
+        let (reply, place) = self.load_step(alloc, key)?;
+        match self.kept(place) {
+            Ok(kept) => Ok((reply, kept)),
+            Err(AllocError) => Err(self.refuse(DeskFault::OutOfMemory)),
+        }
     }
 
     /// Loads a key (DataLoader: `load`). If the desk holds the key, you get the cell that it has. Else the key gets a

@@ -10,7 +10,7 @@ ghost use Rattle.dl_history.specs.Pass.{with_tickets};
 ghost use Rattle.dl_loader.specs.Refusals.{IsRefusal, refusal};
 
 use crate::book::Book;
-use crate::dues::give;
+use crate::dues::{count, give};
 use crate::event_call::{EventCall, Prepared};
 use crate::load_replies::begun_in;
 use crate::reply::Settled;
@@ -63,7 +63,7 @@ impl<L: LoaderName> Book<L> {
         pass.add_event(rows, &mut self.journal, event, cells)?;
         call.show(&mut self.desk);
         pass.add_tickets(&self.journal, loads);
-        let ended = dues.len();
+        let ended = count(&dues);
         let refused = give(&mut self.journal, rows, dues);
         Ok((answer, settled(rows, ended, refused)))
     }

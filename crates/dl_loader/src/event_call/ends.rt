@@ -101,7 +101,7 @@ impl EventCall for EndBatch<'_> {
         Ok(Prepared {
             call,
             reply: Reply::Done,
-            dues,
+            dues: Some(dues),
             answer: (),
         })
     }

@@ -35,14 +35,14 @@ impl EventCall for Clear<'_> {
 
     fn prepare(
         &self,
-        alloc: Global,
+        _alloc: Global,
         _at: u16,
         _desk: &mut Desk,
     ) -> Result<Prepared<()>, CallFault> {
         Ok(Prepared {
             call: clear_call(self)?,
             reply: Reply::Done,
-            dues: Vec::new(alloc),
+            dues: None,
             answer: (),
         })
     }
@@ -106,7 +106,7 @@ impl EventCall for Prime<'_> {
         Ok(Prepared {
             call,
             reply: prime_told(reply),
-            dues,
+            dues: Some(dues),
             answer: reply,
         })
     }
@@ -190,7 +190,7 @@ impl EventCall for Dispatch {
         Ok(Prepared {
             call: Call::Dispatch,
             reply: Reply::Sent(copy),
-            dues: Vec::new(alloc),
+            dues: None,
             answer: SentJobs { jobs, told },
         })
     }

@@ -34,11 +34,12 @@ impl EventCall for Load<'_> {
         _at: u16,
         desk: &mut Desk,
     ) -> Result<Prepared<LoadReply>, CallFault> {
-        let reply = desk.prepare_load(alloc, self.key)?;
+        // The memo's own key, so that the history keeps no key for a load that finds one.
+        let (reply, key) = desk.prepare_kept_load(alloc, self.key)?;
         Ok(Prepared {
-            call: Call::Load(self.key.try_copy()?),
+            call: Call::Load(key),
             reply: Reply::Loaded(reply),
-            dues: Vec::new(alloc),
+            dues: None,
             answer: reply,
         })
     }
@@ -90,7 +91,7 @@ impl EventCall for LoadMany<'_> {
         Ok(Prepared {
             call: Call::LoadMany(keys),
             reply: Reply::Many(told),
-            dues: Vec::new(alloc),
+            dues: None,
             answer: replies,
         })
     }

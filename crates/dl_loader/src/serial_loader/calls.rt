@@ -36,7 +36,7 @@ impl<L: LoaderName> SerialLoader<L> {
         ensures fault { IfErr result (IsRefused L.service caller (call.Load key.now) None self.old) }
         ensures unchanged { OnErr result (self.new ≡ self.old) }
     {
-        let (reply, _) = self.call(alloc, caller, &Load { key }, 1)?;
+        let (reply, _) = self.call(alloc, caller, &Load { key })?;
         Ok(reply)
     }
 
@@ -55,7 +55,7 @@ impl<L: LoaderName> SerialLoader<L> {
         ensures fault { IfErr result (IsRefused L.service caller (call.LoadMany keys.now) None self.old) }
         ensures unchanged { OnErr result (self.new ≡ self.old) }
     {
-        let (replies, _) = self.call(alloc, caller, &LoadMany { keys }, keys.len())?;
+        let (replies, _) = self.call(alloc, caller, &LoadMany { keys })?;
         Ok(replies)
     }
 
@@ -77,7 +77,7 @@ impl<L: LoaderName> SerialLoader<L> {
         ensures fault { IfErr result (IsRefused L.service caller (call.Prime key.now outcome.now) None self.old) }
         ensures unchanged { OnErr result (self.new ≡ self.old) }
     {
-        let (reply, ended) = self.call(alloc, caller, &Prime { key, outcome }, 0)?;
+        let (reply, ended) = self.call(alloc, caller, &Prime { key, outcome })?;
         Ok(prime_reply(reply, ended))
     }
 
@@ -91,7 +91,7 @@ impl<L: LoaderName> SerialLoader<L> {
         ensures fault { IfErr result (IsRefused L.service caller (call.Clear key.now) None self.old) }
         ensures unchanged { OnErr result (self.new ≡ self.old) }
     {
-        self.call(alloc, caller, &Clear::Key(key), 0)?;
+        self.call(alloc, caller, &Clear::Key(key))?;
         Ok(())
     }
 
@@ -105,7 +105,7 @@ impl<L: LoaderName> SerialLoader<L> {
         ensures fault { IfErr result (IsRefused L.service caller call.ClearAll None self.old) }
         ensures unchanged { OnErr result (self.new ≡ self.old) }
     {
-        self.call(alloc, caller, &Clear::All, 0)?;
+        self.call(alloc, caller, &Clear::All)?;
         Ok(())
     }
 
@@ -120,7 +120,7 @@ impl<L: LoaderName> SerialLoader<L> {
         ensures fault { IfErr result (IsRefused L.service caller call.Dispatch None self.old) }
         ensures unchanged { OnErr result (self.new ≡ self.old) }
     {
-        let (sent, _) = self.call(alloc, caller, &Dispatch, 0)?;
+        let (sent, _) = self.call(alloc, caller, &Dispatch)?;
         Ok(sent.into_jobs())
     }
 
@@ -144,7 +144,7 @@ impl<L: LoaderName> SerialLoader<L> {
             (IsRefused L.service caller (end_by (job_of fetched.now).batch (answer_of fetched.now)) (Some (job_of fetched.now)) self.old) }
         ensures unchanged { OnErr result (self.new ≡ self.old) }
     {
-        let (_, settled) = self.call(alloc, caller, &EndBatch::settle(fetched), 0)?;
+        let (_, settled) = self.call(alloc, caller, &EndBatch::settle(fetched))?;
         Ok(settled)
     }
 
@@ -166,7 +166,7 @@ impl<L: LoaderName> SerialLoader<L> {
         ensures fault { IfErr result (IsRefused L.service caller (call.Fail job.now.batch (fault_of give_up)) (Some job.now) self.old) }
         ensures unchanged { OnErr result (self.new ≡ self.old) }
     {
-        let (_, settled) = self.call(alloc, caller, &EndBatch::fail(job, give_up), 0)?;
+        let (_, settled) = self.call(alloc, caller, &EndBatch::fail(job, give_up))?;
         Ok(settled)
     }
 }

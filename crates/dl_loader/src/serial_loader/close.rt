@@ -29,7 +29,6 @@ impl<L: LoaderName> SerialLoader<L> {
             rows,
             mut book,
             mut passes,
-            cells,
             stopped,
         } = self;
         match outlines(alloc, &rows, callers, &mut book, &mut passes) {
@@ -45,7 +44,6 @@ impl<L: LoaderName> SerialLoader<L> {
                     rows,
                     book,
                     passes,
-                    cells,
                     stopped,
                 },
             )),

@@ -11,7 +11,7 @@ returns-in_err-load_step-clause-fault c =
     (loading_refused c.args.self.now.book c.loop-key.self c.args.keys.now c.loop-key.key-index c.loop-key.replies.items c.key-item.result _
     c.loop-key-test.true c.key-item.is c.loop-key.invariant.loading c.in_err-load_step.ensures.fault)
 
-loaded : (c : After-push_reserved) → Loaded c.loop-key.self c.load_step.new.self c.key-item.result c.in_ok-load_step.field-0
+loaded : (c : After-push_reserved) → Loaded c.loop-key.self c.load_step.new.self c.key-item.result c.in_ok-load_step.field-0.0
 loaded c = record {
   shown = c.in_ok-load_step.ensures.book;
   rules = c.in_ok-load_step.ensures.rules;
@@ -25,7 +25,7 @@ loop-key-preserved c =
     let count = c.loop-key.invariant.count in
     record {
       loading = rw c.push_reserved.ensures.items (loading_at c.args.self.now.book c.loop-key.self c.load_step.new.self c.args.keys.now
-          c.loop-key.key-index c.loop-key.replies.items c.key-item.result c.in_ok-load_step.field-0 c.loop-key-test.true c.key-item.is
+          c.loop-key.key-index c.loop-key.replies.items c.key-item.result c.in_ok-load_step.field-0.0 c.loop-key-test.true c.key-item.is
           c.loop-key.invariant.loading (loaded c));
       count = search rules;
       room = rw c.push_reserved.ensures.capacity c.loop-key.invariant.room;

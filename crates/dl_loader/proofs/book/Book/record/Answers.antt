@@ -42,7 +42,7 @@ settled-requires-clause-few g c =
     let next = next_in c.args.pass.now.trace c.self.view_is c.in_ok-prepared.ensures.prepared c.self.invariant c.in_ok-admit.ensures.ok
     c.caller-caller.ensures.caller c.caller-caller.ensures.below c.in_ok-prepared.ensures.call c.next_place-at.ensures c.requires.answers in
     let few = next_few next in
-    let count = c.len-ended.ensures in
+    let count = c.count-ended.ensures in
     omega arith
 
 pub invariant_of-self-2 : goal.invariant_of-self-2

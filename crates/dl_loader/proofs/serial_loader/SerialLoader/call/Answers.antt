@@ -1,36 +1,19 @@
-use Rattle.std.proofs.Common.{◌≡◌, ◌∙◌, ◌++◌, ◌<◌, ap, sym, subst, refl, inl, length, map, set, ℕ, List, arith}
+use Rattle.std.proofs.Common.{◌≡◌, ◌∙◌, ◌<◌, ap, subst, length, map, set, arith}
 use Rattle.std.proofs.Math.Seq.{map-set_same}
 use Rattle.std.proofs.lemmas.List.{length-map, map-set}
 use Rattle.std.proofs.lemmas.Result.{err_from_is_err_and}
-use Rattle.dl_desk.specs.declared.reply.LoadReply.{LoadReply}
-use Rattle.dl_history.specs.Entries.{cell_of_load}
 use Rattle.dl_history.specs.Flags.{KnownFlags}
-use Rattle.dl_loader.specs.SerialLoader.{Serial, IsMade, IsRefused, book_if, serial, ticket_cells}
-use Rattle.dl_loader.proofs.SerialLemmas.{caller_stays, cells_more, makes_as, own_cells, own_trace, part_at, serial_set}
+use Rattle.dl_loader.specs.SerialLoader.{Serial, IsMade, IsRefused, book_if, serial}
+use Rattle.dl_loader.proofs.SerialLemmas.{caller_stays, makes_as, part_at, serial_set}
 use Rattle.dl_loader.proofs.serial_loader.SerialLoader.call.Goals as goal
 
 pub invariant_of-self : goal.invariant_of-self
 invariant_of-self g c =
     let s = c.self.inside in
-    let cells = map-set_same (λ v. v.items) s.cells.items c.args.caller c.reserve.new.self c.index_mut-cells.result.now
-    (c.reserve.ensures.items ∙ ap (λ v. v.items) c.index_mut-cells.ensures.value) in
-    rw cells c.self.invariant
-
-pub returns-in_err-reserve-clause-fault : goal.returns-in_err-reserve-clause-fault
-returns-in_err-reserve-clause-fault g c =
-    let own = own_trace c.args.self.now.traces c.args.caller c.requires.caller in
-    let p = err_from_is_err_and c.from_residual.result c.from_residual.ensures.1 in
-    rw (p.1, p.2) (own.0, own.1, inl refl)
-
-pub invariant_of-self-in_err-reply : goal.invariant_of-self-in_err-reply
-invariant_of-self-in_err-reply g c =
-    let s = c.self.inside in
     let unchanged = c.in_err-reply.ensures.unchanged in
-    let cells = map-set_same (λ v. v.items) s.cells.items c.args.caller c.reserve.new.self c.index_mut-cells.result.now
-    (c.reserve.ensures.items ∙ ap (λ v. v.items) c.index_mut-cells.ensures.value) in
     let passes = map-set_same (λ p. p.trace) s.passes.items c.args.caller c.make.new.pass c.index_mut-pass.result.now
     (unchanged.1 ∙ ap (λ p. p.trace) c.index_mut-pass.ensures.value) in
-    rw (unchanged.0, passes, cells) c.self.invariant
+    rw (unchanged.0, passes) c.self.invariant
 
 pub returns-in_err-reply-clause-fault : goal.returns-in_err-reply-clause-fault
 returns-in_err-reply-clause-fault g c =
@@ -39,7 +22,7 @@ returns-in_err-reply-clause-fault g c =
     let shown = ap (λ (x : Serial). length x.traces) c.self.view_is in
     let low : c.args.caller < length s.passes.items = omega (arith, c.requires.caller, many, shown) in
     let at = part_at (λ p. p.trace) s.passes.items c.args.caller c.index_mut-pass.result.now c.index_mut-pass.ensures.value low in
-    let p = err_from_is_err_and c.from_residual-in_err-reply.result c.from_residual-in_err-reply.ensures.1 in
+    let p = err_from_is_err_and c.from_residual.result c.from_residual.ensures.1 in
     let Refused = λ (x : Serial). IsRefused g.L.LoaderName.service c.args.caller (g.C.EventCall.call c.args.call.now) (g.C.EventCall.job c.args.call.now) x
     c.in_err-reply.field-0.0 in
     rw (p.1, p.2) (subst Refused c.self.view_is (c.index_mut-pass.result.now.trace, at, c.in_err-reply.ensures.fault))
@@ -50,18 +33,10 @@ returns-in_err-reply-clause-unchanged g c =
     let unchanged = c.in_err-reply.ensures.unchanged in
     let passes = map-set_same (λ p. p.trace) s.passes.items c.args.caller c.make.new.pass c.index_mut-pass.result.now
     (unchanged.1 ∙ ap (λ p. p.trace) c.index_mut-pass.ensures.value) in
-    let p = err_from_is_err_and c.from_residual-in_err-reply.result c.from_residual-in_err-reply.ensures.1 in
+    let p = err_from_is_err_and c.from_residual.result c.from_residual.ensures.1 in
     let same : serial (book_if s.stopped c.make.new.book) (map (λ p. p.trace) (set s.passes.items c.args.caller c.make.new.pass)) ≡ c.args.self.now =
     rw (unchanged.0, passes) c.self.view_is in
     rw p.1 same
-
-pub note-requires : goal.note-requires
-note-requires g c =
-    let few = c.requires.few c.self.inside.book c.make.new.book c.index_mut-pass.result.now.trace c.make.new.pass.trace c.in_ok-reply.reply c.keeps.ensures
-    c.in_ok-reply.ensures.made in
-    let same = ap length c.loads.ensures in
-    let room = c.in_ok-reserve.ensures.ok in
-    omega (arith, few, same, room, c.reserve.new.self.ok.0)
 
 pub invariant_of-self-2 : goal.invariant_of-self-2
 invariant_of-self-2 g c =
@@ -71,20 +46,11 @@ invariant_of-self-2 g c =
     let old = c.index_mut-pass.result.now.trace in
     let new = c.make.new.pass.trace in
     let passes = length-map s.passes.items (λ p. p.trace) in
-    let lists = length-map s.cells.items (λ v. v.items) in
     let shown = ap (λ (x : Serial). length x.traces) c.self.view_is in
     let low : c.args.caller < length s.passes.items = omega (arith, c.requires.caller, passes, shown) in
-    let low_cells : c.args.caller < length s.cells.items = omega (arith, low, passes, lists, is.each, is.lists) in
     let at = part_at (λ p. p.trace) s.passes.items c.args.caller c.index_mut-pass.result.now c.index_mut-pass.ensures.value low in
-    let before = own_cells (λ v. v.items) (map (λ p. p.trace) s.passes.items) s.cells.items c.args.caller c.index_mut-cells.result.now old is.cells_are
-    c.index_mut-cells.ensures.value low_cells at in
-    let told : c.note.new.cells.items ≡ ticket_cells new =
-    c.note.ensures
-    ∙ (ap (λ (cs : List ℕ). cs ++ map cell_of_load c.loads.result.now) (c.reserve.ensures.items ∙ before)
-    ∙ (ap (λ (ls : List LoadReply). ticket_cells old ++ map cell_of_load ls) (sym c.loads.ensures) ∙ sym (cells_more made))) in
     let running = ap (λ (f : KnownFlags). f.stopped) made.flags ∙ is.unstopped in
-    rw (map-set (λ p. p.trace) s.passes.items c.args.caller c.make.new.pass, map-set (λ v. v.items) s.cells.items c.args.caller c.note.new.cells, told)
-    (serial_set c.args.caller old new is running at (caller_stays made))
+    rw (map-set (λ p. p.trace) s.passes.items c.args.caller c.make.new.pass) (serial_set c.args.caller old new is running at (caller_stays made))
 
 pub returns-clause-made : goal.returns-clause-made
 returns-clause-made g c =

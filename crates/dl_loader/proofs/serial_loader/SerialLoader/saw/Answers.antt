@@ -1,44 +1,37 @@
-use Rattle.std.proofs.Common.{◌≡◌, ◌∙◌, ap, sym, subst, refl, ◌<◌, length, map, set, arith, List, IfSome, slice_get}
+use Rattle.std.proofs.Common.{◌≡◌, ◌∙◌, ap, sym, subst, refl, ◌<◌, length, map, set, arith, List, Option, Some, IfSome, slice_get}
 use Rattle.std.proofs.lemmas.List.{length-map, map-set}
 use Rattle.dl_history.specs.Entries.{cell_of_load, ending_known}
 use Rattle.dl_history.specs.Pass.{Trace}
-use Rattle.dl_loader.specs.SerialLoader.{HasSeen, Serial, book_if, serial, ticket_cells}
-use Rattle.dl_loader.proofs.SerialLemmas.{gave_at, number_low, own_cells, own_trace, part_at, saw_caller, saw_cells, serial_same}
+use Rattle.dl_loader.specs.SerialLoader.{HasSeen, Serial, book_if, serial}
+use Rattle.dl_loader.proofs.SerialLemmas.{gave_at, number_low, part_at, saw_caller, serial_set}
 use Rattle.dl_loader.proofs.serial_loader.SerialLoader.saw.Goals as goal
 
-pub index-cell-requires : goal.index-cell-requires
-index-cell-requires g c =
+pub ticket_cell-cell-requires : goal.ticket_cell-cell-requires
+ticket_cell-cell-requires g c =
     let s = c.self.inside in
-    let is = c.self.invariant in
     let told = ap (λ (x : Serial). x.traces) c.self.view_is in
     let shown = ap length told in
-    let lists = length-map s.cells.items (λ v. v.items) in
-    let low : c.args.caller < length (map (λ p. p.trace) s.passes.items) = omega (arith, c.requires.caller, shown) in
-    let low_cells : c.args.caller < length s.cells.items = omega (arith, low, lists, is.each, is.lists) in
-    let own = own_trace (map (λ p. p.trace) s.passes.items) c.args.caller low in
-    let cells = own_cells (λ v. v.items) (map (λ p. p.trace) s.passes.items) s.cells.items c.args.caller c.index.result.now own.0 is.cells_are
-    c.index.ensures low_cells own.1 in
+    let passes = length-map s.passes.items (λ p. p.trace) in
+    let low : c.args.caller < length s.passes.items = omega (arith, c.requires.caller, shown, passes) in
+    let at = part_at (λ p. p.trace) s.passes.items c.args.caller c.index.result.now c.index.ensures low in
     let given = subst (λ (ps : List Trace). IfSome (slice_get ps c.args.caller) (λ q. c.args.number < length q.tickets)) (sym told) c.requires.number in
-    let few = number_low (map (λ p. p.trace) s.passes.items) c.args.caller c.args.number own.0 c.index.result.now.items own.1 given cells in
-    omega (arith, few, c.index.result.now.ok.0)
+    number_low (map (λ p. p.trace) s.passes.items) c.args.caller c.args.number c.index.result.now.trace at given
 
 pub saw-requires-clause-gave : goal.saw-requires-clause-gave
 saw-requires-clause-gave g c =
     let s = c.self.inside in
-    let is = c.self.invariant in
     let told = ap (λ (x : Serial). x.traces) c.self.view_is in
     let shown = ap length told in
     let passes = length-map s.passes.items (λ p. p.trace) in
-    let lists = length-map s.cells.items (λ v. v.items) in
     let low : c.args.caller < length s.passes.items = omega (arith, c.requires.caller, shown, passes) in
-    let low_cells : c.args.caller < length s.cells.items = omega (arith, low, passes, lists, is.each, is.lists) in
     let old = c.index_mut.result.now.trace in
     let at = part_at (λ p. p.trace) s.passes.items c.args.caller c.index_mut.result.now c.index_mut.ensures.value low in
-    let cells = own_cells (λ v. v.items) (map (λ p. p.trace) s.passes.items) s.cells.items c.args.caller c.index.result.now old is.cells_are
-    c.index.ensures low_cells at in
+    let own = part_at (λ p. p.trace) s.passes.items c.args.caller c.index.result.now c.index.ensures low in
+    let both : ◌≡◌ {A = Option Trace} (Some c.index.result.now.trace) (Some old) = sym own ∙ at in
+    let same : c.index.result.now.trace ≡ old = cc in
     let given = subst (λ (ps : List Trace). IfSome (slice_get ps c.args.caller) (λ q. c.args.number < length q.tickets)) (sym told) c.requires.number in
-    let few = number_low (map (λ p. p.trace) s.passes.items) c.args.caller c.args.number old c.index.result.now.items at given cells in
-    let gave = gave_at old c.args.number c.index-cell.result.now c.index.result.now.items cells c.index-cell.ensures few in
+    let few = number_low (map (λ p. p.trace) s.passes.items) c.args.caller c.args.number old at given in
+    let gave = gave_at old c.args.number c.ticket_cell-cell.result few (rw same at c.ticket_cell-cell.ensures) in
     (gave.0, rw (c.look.ensures.number, c.look.ensures.reply, c.new-ticket.ensures) gave.1)
 
 pub invariant_of-self : goal.invariant_of-self
@@ -53,9 +46,8 @@ invariant_of-self g c =
     let saw = c.saw.ensures.saw in
     let ticket = c.look.new.self in
     let caller = ap (λ (p : Trace). p.caller) saw.2 ∙ saw_caller old ticket.number (cell_of_load ticket.reply) (ending_known ticket.known) saw.0 in
-    let cells = ap ticket_cells saw.2 ∙ saw_cells old ticket.number (cell_of_load ticket.reply) (ending_known ticket.known) saw.0 saw.1 in
     rw (map-set (λ p. p.trace) s.passes.items c.args.caller c.saw.new.self)
-    (serial_same c.args.caller old new c.self.invariant c.self.invariant.unstopped at caller cells)
+    (serial_set c.args.caller old new c.self.invariant c.self.invariant.unstopped at caller)
 
 pub returns-clause-seen : goal.returns-clause-seen
 returns-clause-seen g c =

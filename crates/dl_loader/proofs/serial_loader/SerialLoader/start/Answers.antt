@@ -1,9 +1,7 @@
-use Rattle.std.proofs.Common.{◌≡◌, ◌∙◌, ◌+◌, ap, sym, length, map, slice_get, List, arith}
-use Rattle.std.proofs.lemmas.List.{length-map}
+use Rattle.std.proofs.Common.{◌≡◌, ◌∙◌, ◌+◌, ap, sym, length, slice_get, List, arith}
 use Rattle.dl_history.specs.Flags.{KnownFlags}
 use Rattle.dl_history.specs.Pass.{Trace}
-use Rattle.dl_loader.specs.SerialLoader.{ticket_cells}
-use Rattle.dl_loader.proofs.SerialLemmas.{new_count, new_numbered, none_given}
+use Rattle.dl_loader.proofs.SerialLemmas.{new_count, new_numbered}
 use Rattle.dl_loader.proofs.Sources.{source_answers}
 use Rattle.dl_loader.proofs.serial_loader.SerialLoader.start.Goals as goal
 
@@ -12,7 +10,6 @@ invariant_of-loader g c =
     let names = c.requires.names in
     let own = g.L.LoaderName.service in
     let callers = sym c.opening.invariant.parts_are ∙ ap (λ o. o.callers) c.opening.view_is in
-    let many = c.in_ok-cells.ensures.each ∙ (callers ∙ names.callers) in
     let traces = c.in_ok-passes.ensures in
     record {
       callers_are = callers ∙ names.callers;
@@ -20,9 +17,7 @@ invariant_of-loader g c =
       answers = source_answers (g.S.Source.answer c.args.opening.source) own.answer (g.met.S.Source.fits c.args.opening.source) names.no_more;
       unstopped = ap (λ (f : KnownFlags). f.stopped) c.new-book.ensures.flags;
       each = ap length traces ∙ new_count 0 own.callers;
-      lists = length-map c.in_ok-cells.cells.items (λ v. v.items) ∙ many;
       numbered = λ n p got.
           let at : 0 + n ≡ n = omega arith in
           new_numbered 0 own.callers n p (ap (λ (ps : List Trace). slice_get ps n) (sym traces) ∙ got) ∙ at;
-      cells_are = ap (map ticket_cells) traces ∙ none_given (λ v. v.items) 0 own.callers c.in_ok-cells.cells.items many c.in_ok-cells.ensures.none;
     }

@@ -1,7 +1,7 @@
 use Rattle.std.proofs.Common.{◌≡◌, ◌+◌, ◌≤◌, length}
 use Rattle.dl_history.specs.Journal.{refusals}
 use Rattle.dl_loader.specs.Inside.Dues.{AreGiven}
-use Rattle.dl_loader.proofs.dues.give.Given as goal
+use Rattle.dl_loader.proofs.dues.give_each.Given as goal
 
 abbrev pub invariant-loop-due : goal.invariant-loop-due
 invariant-loop-due g l = record {
