@@ -41,10 +41,10 @@ mutual
   whole_terms (tree t ts) are = or_from (has_float (term_tree t)) (items_have_float (terms_tree ts)) (whole_term t are.0) (whole_terms ts are.1)
 
   whole_members : (ts : Trees) (names : List Name) → HasNames names ts → AreTerms ts → members_have_float (members_tree names ts) ≡ false
-  whole_members no_trees names named are = refl
-  whole_members (tree t ts) [] named are = absurd named
-  whole_members (tree t ts) (name ∷ names) named are =
-      or_from (has_float (term_tree t)) (members_have_float (members_tree names ts)) (whole_term t are.0) (whole_members ts names named are.1)
+  whole_members no_trees names have are = refl
+  whole_members (tree t ts) [] have are = absurd have
+  whole_members (tree t ts) (name ∷ names) have are =
+      or_from (has_float (term_tree t)) (members_have_float (members_tree names ts)) (whole_term t are.0) (whole_members ts names have are.1)
 
 whole_step : (d : Data) (s : StepTree) → IsPlanStep (forms_of d) s → has_float (step_tree s) ≡ false
 whole_step d (prime k (outcome.Value e)) is = alone ((has_float e || false) || false) (with_texts (has_float e) is.1)
