@@ -594,7 +594,7 @@ fault_behind_values whole es rest vs e o are h is = are ∙ (ap (λ l. l ++ (e �
 -- as many values as are in front of one ending more
 pub behind_few : (es : List (Result Data Origin)) (vs : List Data) (e : Result Data Origin) (rest : List (Result Data Origin)) → es ≡ map value_ending vs ++ e ∷ rest
     → length vs + 1 ≤ length es
-behind_few es vs e rest are = omega (arith, ap length are, length-append (map value_ending vs) (e ∷ rest), length-map value_ending vs)
+behind_few es vs e rest are = omega (arith, ap length are, length-append (map value_ending vs) (e ∷ rest), length-map vs value_ending)
 
 -- ---- one step of a loop over parts
 

@@ -1,7 +1,8 @@
 -- What parts of terms ask for and answer.
-use Rattle.std.proofs.Common.{◌≡◌, ◌∙◌, ap, sym, subst, refl, ℕ, ◌+◌, ◌<◌, ◌≤◌, Bool, true, false, List, [], ◌∷◌, ◌++◌, length, drop}
+use Rattle.std.proofs.Common.{◌≡◌, ◌∙◌, ap, sym, subst, refl, true≢false, ℕ, ◌+◌, ◌<◌, ◌≤◌, Bool, true, false, List, [], ◌∷◌, ◌++◌, length, drop}
 use Rattle.std.proofs.Common.{get_or, Option, Some, None, arith, rules}
 use Rattle.std.specs.Prelude.{option_map, option_and_then, Result, Ok, Err, IfOk}
+use Rattle.std.specs.Option.{is_some}
 use Rattle.std.proofs.lemmas.List.{drop_all, drop_more}
 use Rattle.serde_json.specs.Data.{Data, no_items}
 use Rattle.serde_json.specs.View.{items_of}
@@ -55,6 +56,11 @@ fault_given true vs f rest = refl
 fault_given false vs f None = refl
 fault_given false vs f (Some xs) = ap (λ (g : Gathered). Some g) (sym (with_fault vs f))
 
+pub note_given : (w : Bool) (e : Option EvalFault) (vs : List Data) (f : EvalFault) (rest : Option (List Answer)) → is_some e ≡ false
+    → given w (Some f) vs rest ≡ given w e vs (both (Some (Fault f)) rest)
+note_given w None vs f rest none = fault_given w vs f rest
+note_given w (Some e) vs f rest none = absurd (true≢false none)
+
 pub other_given : (w : Bool) (e f : EvalFault) (vs : List Data) (rest : Option (List Answer))
     → given w (Some e) vs rest ≡ given w (Some e) vs (both (Some (Fault f)) rest)
 other_given true e f vs rest = refl
@@ -72,6 +78,24 @@ fault_finished j f vs = refl
 
 pub values_finished : (j : Joint) (vs : List Data) → option_map (joined_as j) (given false None vs (Some [])) ≡ Some (Value (joined_data j (items_of vs)))
 values_finished j vs = ap (λ (g : Gathered). Some (joined_as j g)) (with_none vs)
+
+pub fault_ends : (j : Joint) (t : Together) (f : EvalFault) (a : Answer) → t.waits ≡ false → t.fault ≡ Some f → a ≡ Fault f
+    → Some a ≡ option_map (joined_as j) (so_far t (Some []))
+fault_ends j t f a goes has is =
+    let vs = t.values.items in
+    ap (λ (x : Answer). Some x) is
+    ∙ (sym (fault_finished j f vs)
+    ∙ (ap (λ w. option_map (joined_as j) (given w (Some f) vs (Some []))) (sym goes)
+    ∙ ap (λ e. option_map (joined_as j) (given t.waits e vs (Some []))) (sym has)))
+
+pub values_end : (j : Joint) (t : Together) (d : Data) (a : Answer) → t.waits ≡ false → t.fault ≡ None → d ≡ joined_data j (items_of t.values.items) → a ≡ Value d
+    → Some a ≡ option_map (joined_as j) (so_far t (Some []))
+values_end j t d a goes has whole is =
+    let vs = t.values.items in
+    ap (λ (x : Answer). Some x) (is ∙ ap Value whole)
+    ∙ (sym (values_finished j vs)
+    ∙ (ap (λ w. option_map (joined_as j) (given w None vs (Some []))) (sym goes)
+    ∙ ap (λ e. option_map (joined_as j) (given t.waits e vs (Some []))) (sym has)))
 
 -- ---- one step of a loop over parts
 

@@ -119,7 +119,7 @@ impl Together {
         alloc: Global,
         names: Option<&Vec<Text>>,
     ) -> Result<Asking, AllocError>
-        ensures { IfOk result (Asks self.loads (option_map (joined_as (joint_by names)) (so_far self (Some [])))) }
+        ensures { IfOk result (Asks self.loads (option_map (joined_as (joint_by names.entry)) (so_far self (Some [])))) }
     {
         let Together {
             loads,
@@ -150,7 +150,7 @@ pub(crate) fn joined(
     names: Option<&Vec<Text>>,
     values: Vec<AnswerValue>,
 ) -> Result<AnswerValue, AllocError>
-    ensures { IfOk result (λ v. v ≡ joined_data (joint_by names) (items_of values.items)) }
+    ensures { IfOk result (λ v. v ≡ joined_data (joint_by names.entry) (items_of values.items)) }
 {
     match names {
         None => Ok(AnswerValue::list(values)),

@@ -189,7 +189,7 @@ impl<'h> Knowledge<'h, '_> {
 
     /// The item around a term, if there is one.
     fn item(&self, item: Option<&AnswerValue>) -> Result<Asking, AllocError>
-        ensures { IfOk result (Asks 0 (Some (item_answer (option_copied item)))) }
+        ensures { IfOk result (Asks 0 (Some (item_answer (option_copied item.entry)))) }
     {
         match item {
             None => Ok(Asking::of(Answer::Fault(EvalFault::NoItem))),
@@ -221,7 +221,7 @@ impl<'h> Knowledge<'h, '_> {
     /// What a term asks for and answers, in a body with this item or in none.
     #[cycle(asking)]
     pub(crate) fn ask(&self, term: &Term, item: Option<&AnswerValue>) -> Result<Asking, AllocError>
-        ensures { IfOk result (AsksTerm (known_of self.now) (option_copied item) (term_view term.now)) }
+        ensures { IfOk result (AsksTerm (known_of self.now) (option_copied item.entry) (term_view term.now)) }
     {
         match term {
             Term::Value(value) => {
@@ -247,8 +247,8 @@ impl<'h> Knowledge<'h, '_> {
         names: Option<&Vec<Text>>,
         item: Option<&AnswerValue>,
     ) -> Result<Asking, AllocError>
-        ensures { IfOk result (Asks (all_loads_at (known_of self.now) (option_copied item) (terms_view terms.now.items))
-            (option_map (joined (joint_by names)) (answers_at (known_of self.now) (option_copied item) (terms_view terms.now.items)))) }
+        ensures { IfOk result (Asks (all_loads_at (known_of self.now) (option_copied item.entry) (terms_view terms.now.items))
+            (option_map (joined (joint_by names.entry)) (answers_at (known_of self.now) (option_copied item.entry) (terms_view terms.now.items)))) }
     {
         let mut together = Together::new(self.alloc);
         for term in terms {
@@ -346,7 +346,8 @@ impl<'h> Knowledge<'h, '_> {
                 Some(waiting) => Ok(Some(waiting)),
                 None => self.waiting_over(self.ask(part, item)?, body),
             },
-            Term::All(parts) | Term::Object { parts, .. } => self.waiting_in(parts, item),
+            Term::All(parts) => self.waiting_in(parts, item),
+            Term::Object { parts, .. } => self.waiting_in(parts, item),
         }
     }
 

@@ -30,7 +30,7 @@ fn gathered<'t>(
     names: Option<&Vec<Text>>,
     endings: Vec<Ending<'t>>,
 ) -> Result<Result<AnswerValue, (usize, Origin<'t>)>, AllocError>
-    ensures { IfOk result (Gathers (joint_by names) endings.entry.items) }
+    ensures { IfOk result (Gathers (joint_by names.entry) endings.entry.items) }
 {
     let mut values = Vec::with_capacity(alloc, endings.len())?;
     for ending in endings {
@@ -86,7 +86,7 @@ impl Knowledge<'_, '_> {
         term: &'t Term,
         item: Option<&AnswerValue>,
     ) -> Result<Option<Ending<'t>>, AllocError>
-        ensures { term_view term.now ≡ the_item → IfOk result (MayEndWith (known_of self.now) (at_item (option_copied item) (term_view term.now))) }
+        ensures { term_view term.now ≡ the_item → IfOk result (MayEndWith (known_of self.now) (at_item (option_copied item.entry) (term_view term.now))) }
     {
         match item {
             None => Ok(Some(Err(Origin::own(self.alloc, term, EvalFault::NoItem, Met::Nothing)))),
@@ -332,7 +332,7 @@ impl Knowledge<'_, '_> {
         endings: Option<Vec<Ending<'t>>>,
     ) -> Result<Option<Ending<'t>>, AllocError>
         requires { number ≤ 1 }
-        ensures { (t : Tree) (ts : List Tree) → IsOf t term.now → IsTogether (known_of self.now) t (joint_by names) number ts
+        ensures { (t : Tree) (ts : List Tree) → IsOf t term.now → IsTogether (known_of self.now) t (joint_by names.entry) number ts
             → IfSome endings.entry (λ es. AllZip (EndsWith (known_of self.now)) ts es.items)
             → IfNone endings.entry (answers (known_of self.now) (trees_of ts) ≡ None) → IfOk result (MayEndWith (known_of self.now) t) }
     {
@@ -352,7 +352,7 @@ impl Knowledge<'_, '_> {
         term: &'t Term,
         item: Option<&AnswerValue>,
     ) -> Result<Option<Ending<'t>>, AllocError>
-        ensures { IfOk result (MayEndWith (known_of self.now) (at_item (option_copied item) (term_view term.now))) }
+        ensures { IfOk result (MayEndWith (known_of self.now) (at_item (option_copied item.entry) (term_view term.now))) }
     {
         match term {
             Term::Value(value) => Ok(Some(Ok(AnswerValue::row(value.try_copy()?)))),
@@ -383,7 +383,7 @@ impl Knowledge<'_, '_> {
         item: Option<&AnswerValue>,
     ) -> Result<Option<Ending<'t>>, AllocError>
         ensures { (t : Tree) → IsOf t term.now
-            → IsTogether (known_of self.now) t (joint_by names) 0 (map (λ x. at_item (option_copied item) (term_view x)) parts.now)
+            → IsTogether (known_of self.now) t (joint_by names.entry) 0 (map (λ x. at_item (option_copied item.entry) (term_view x)) parts.now)
             → IfOk result (MayEndWith (known_of self.now) t) }
     {
         let endings = self.endings_of(parts, item)?;
@@ -398,9 +398,9 @@ impl Knowledge<'_, '_> {
         item: Option<&AnswerValue>,
     ) -> Result<Option<Vec<Ending<'t>>>, AllocError>
         ensures endings { IfOk result (λ o. IfSome o (λ endings. AllZip (EndsWith (known_of self.now))
-            (map (λ x. at_item (option_copied item) (term_view x)) terms.now) endings.items)) }
+            (map (λ x. at_item (option_copied item.entry) (term_view x)) terms.now) endings.items)) }
         ensures waits { IfOk result (λ o. IfNone o
-            (answers (known_of self.now) (trees_of (map (λ x. at_item (option_copied item) (term_view x)) terms.now)) ≡ None)) }
+            (answers (known_of self.now) (trees_of (map (λ x. at_item (option_copied item.entry) (term_view x)) terms.now)) ≡ None)) }
     {
         let mut endings = Vec::with_capacity(self.alloc, terms.len())?;
         for term in terms {

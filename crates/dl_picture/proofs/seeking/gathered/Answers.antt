@@ -28,8 +28,8 @@ returns-in-Err c =
       omega (arith, c.len-in-Err.ensures, c.loop-ending.values.ok.0),
     )
 
-pub returns-in_ok-joined : goal.returns-in_ok-joined
-returns-in_ok-joined c =
+pub returns : goal.returns
+returns c =
     let h = c.loop-ending.invariant in
     let none : into_iter_items c.loop-ending.ending-iterator ≡ [] = nil_from_length _ (sym h.long ∙ c.in-None.ensures.steps.0) in
     let are : c.args.endings.items ≡ c.loop-ending.yielded = h.left ∙ (ap (λ l. c.loop-ending.yielded ++ l) none ∙ append-nil c.loop-ending.yielded) in

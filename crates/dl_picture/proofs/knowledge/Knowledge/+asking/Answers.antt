@@ -24,7 +24,7 @@ ask_copies-loop-item-preserved t c =
           (loads_at known (Some x) body) (λ rest. refl) c.loop-item.together.loads _ _ h.loads
           (c.in_ok-push.ensures.loads ∙ ap (λ n. c.loop-item.together.loads + n) asked.loads);
       gives = gives_next items i x c.loop-item-test.true c.item-item.is (λ ds. copy_answers (λ d. answer_at known (Some d) body) (items_of ds))
-          (answer_at known (Some x) body) _ (λ rest. refl) c.loop-item.together _ _ h.gives asked.answer c.in_ok-push.ensures.gives;
+          (answer_at known (Some x) body) _ (λ rest. refl) c.loop-item.together c.push.new.self _ h.gives asked.answer c.in_ok-push.ensures.gives;
     }
 
 pub ask_copies-returns : goal.ask_copies-returns
@@ -55,7 +55,7 @@ ask_all-loop-term-preserved t c =
           (λ rest. refl) c.loop-term.together.loads _ _ h.loads
           (c.in_ok-push.ensures.loads ∙ ap (λ n. c.loop-term.together.loads + n) asked.loads);
       gives = gives_next terms i x c.loop-term-test.true c.term-item.is (λ ts. answers_at known at (terms_view ts)) (answer_at known at (term_view x)) _
-          (λ rest. refl) c.loop-term.together _ _ h.gives asked.answer c.in_ok-push.ensures.gives;
+          (λ rest. refl) c.loop-term.together c.push.new.self _ h.gives asked.answer c.in_ok-push.ensures.gives;
     }
 
 pub ask_all-ask-requires : goal.ask_all-ask-requires
@@ -155,14 +155,14 @@ ask_over-returns-in-Err t c =
     let known = known_of c.args.self.now in
     let body = term_view c.args.body.now in
     subst (λ x. Asks (copies_load (λ d. loads_at known (Some d) body) x) (copies_answer (λ d. answer_at known (Some d) body) x) c.of.result)
-    (sym (ap listed_as c.in-Err.is) ∙ c.in_ok-items.ensures) c.of.ensures
+    (sym (ap listed_as c.in-Err.is) ∙ c.in_ok-fault.ensures) c.of.ensures
 
 pub ask_over-returns-in-Ok : goal.ask_over-returns-in-Ok
 ask_over-returns-in-Ok t c =
     let known = known_of c.args.self.now in
     let body = term_view c.args.body.now in
     subst (λ x. IfOk c.ask_copies.result (Asks (copies_load (λ d. loads_at known (Some d) body) x) (copies_answer (λ d. answer_at known (Some d) body) x)))
-    (sym (ap listed_as c.in-Ok.is) ∙ c.in_ok-items.ensures)
+    (sym (ap listed_as c.in-Ok.is) ∙ c.in_ok-fault.ensures)
     (subst (λ ds. IfOk c.ask_copies.result (Asks (copy_loads (λ d. loads_at known (Some d) body) (items_of ds))
     (option_map gathered (copy_answers (λ d. answer_at known (Some d) body) (items_of ds))))) c.as_slice.ensures.value c.ask_copies.ensures)
 

@@ -111,7 +111,7 @@ over_of-returns-in-Err u c = λ t q has whose is.
     let o = c.own.result in
     over_fails (known_of c.args.self.now) t q (term_view c.args.body.now) c.args.value c.in-Err.fault o
     (own_is t c.args.term.now o whose c.own.ensures.part c.own.ensures.path) has is
-    (sym c.in_ok-items.ensures ∙ ap listed_as c.in-Err.is) c.own.ensures.fault (c.own.ensures.met ∙ ap met.Whole (c.row.ensures ∙ c.in_ok-to_json.ensures))
+    (sym c.in_ok-fault.ensures ∙ ap listed_as c.in-Err.is) c.own.ensures.fault (c.own.ensures.met ∙ ap met.Whole (c.row-whole.ensures ∙ c.in_ok-to_json.ensures))
 
 pub over_of-returns-in_ok-endings-in-Ok : goal.over_of-returns-in_ok-endings-in-Ok
 over_of-returns-in_ok-endings-in-Ok u c = λ t q has whose is.
@@ -119,7 +119,7 @@ over_of-returns-in_ok-endings-in-Ok u c = λ t q has whose is.
     let body = term_view c.args.body.now in
     let vs = c.in-Ok.items.items in
     let ts = map (λ d. with_item d body) vs in
-    let found = sym c.in_ok-items.ensures ∙ ap listed_as c.in-Ok.is in
+    let found = sym c.in_ok-fault.ensures ∙ ap listed_as c.in-Ok.is in
     let same : map (λ d. with_item d body) c.as_slice.result.now ≡ ts = ap (map (λ d. with_item d body)) c.as_slice.ensures.value in
     c.together.ensures t ts whose (over_together known t q body c.args.value vs has is found)
     (subst (λ us. IfSome c.in_ok-endings-in-Ok.endings (λ es. AllZip (EndsWith known) us es.items)) same c.in_ok-endings-in-Ok.ensures.endings)
@@ -235,10 +235,14 @@ pub seek-seek_all-requires : goal.seek-seek_all-requires
 seek-seek_all-requires t c =
     let high : height_of (term_view c.args.term.now) ≡ height_of_all (terms_view c.in-All.parts.items) + 1 =
     ap height_of (ap term_view c.in-All.is ∙ term_view-All c.in-All.parts) in
+    let same : height_of_all (terms_view c.as_slice.result.now) ≡ height_of_all (terms_view c.in-All.parts.items) =
+    ap (λ ts. height_of_all (terms_view ts)) c.as_slice.ensures.value in
     omega (arith, c.decreases)
 
 pub seek-seek_all-requires-in-Object : goal.seek-seek_all-requires-in-Object
 seek-seek_all-requires-in-Object t c =
     let high : height_of (term_view c.args.term.now) ≡ height_of_all (terms_view c.in-Object.parts.items) + 1 =
     ap height_of (ap term_view c.in-Object.is ∙ term_view-Object c.in-Object.names c.in-Object.parts) in
+    let same : height_of_all (terms_view c.as_slice-in-Object.result.now) ≡ height_of_all (terms_view c.in-Object.parts.items) =
+    ap (λ ts. height_of_all (terms_view ts)) c.as_slice-in-Object.ensures.value in
     omega (arith, c.decreases)

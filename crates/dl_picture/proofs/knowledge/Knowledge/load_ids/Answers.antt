@@ -20,7 +20,7 @@ loop-id-preserved c =
       loads = loads_next ids i x c.loop-id-test.true c.id-item.is (λ vs. each_loads (item_targets table (items_view vs))) (target_loads target) (λ rest. refl)
           c.loop-id.together.loads _ _ h.loads (c.in_ok-push.ensures.loads ∙ ap (λ n. c.loop-id.together.loads + n) asked.loads);
       gives = gives_next ids i x c.loop-id-test.true c.id-item.is (λ vs. target_answers known (item_targets table (items_view vs))) (target_answer known target) _
-          (λ rest. refl) c.loop-id.together _ _ h.gives asked.answer c.in_ok-push.ensures.gives;
+          (λ rest. refl) c.loop-id.together c.push.new.self _ h.gives asked.answer c.in_ok-push.ensures.gives;
     }
 
 pub returns : goal.returns

@@ -1,7 +1,8 @@
-use Rattle.std.proofs.Common.{subst, arith}
+use Rattle.std.proofs.Common.{ap, subst, sym, arith}
 use Rattle.std.specs.Prelude.{IfOk}
 use Rattle.serde_json.specs.Find.{as_array}
 use Rattle.serde_json.specs.View.{view}
+use Rattle.dl_terms.specs.TermAnswers.{list_targets}
 use Rattle.dl_terms.specs.declared.answer.EvalFault.TheVariants as why
 use Rattle.dl_terms.proofs.Reductions.{not_many, too_many}
 use Rattle.dl_picture.specs.Asking.{known_of}
@@ -32,3 +33,12 @@ returns-else-len-gt-MOST_ITEMS c = λ t q d field has found whose is.
     (λ ending h. each_together known t term q field table d ids list ending whose has is found c.in-Some.ensures
     (not_many table (as_array ids) list c.in-Some.ensures (omega (arith, c.len.ensures, c.in-Some.list.now.ok.0, c.if-len-gt-MOST_ITEMS.false))) h)
     (subst (λ vs. IfOk c.seek_ids.result (AreTogether known term table vs)) c.as_slice.ensures.value c.seek_ids.ensures)
+
+pub returns-in_ok-no_ids-in-None : goal.returns-in_ok-no_ids-in-None
+returns-in_ok-no_ids-in-None c = λ t q d field has found whose is.
+    let table = c.args.table.now in
+    let ids = view c.args.ids.now in
+    let o = c.in_ok-no_ids-in-None.field-0 in
+    let says = c.in_ok-no_ids-in-None.ensures in
+    each_no_ids (known_of c.args.self.now) t q field table d ids says.met.0 why.NotAList o (own_is t c.args.term.now o whose says.part says.path) has is found
+    (ap (list_targets table) (sym c.in-None.ensures)) says.fault says.met.1 says.met.2
