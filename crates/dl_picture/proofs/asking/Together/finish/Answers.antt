@@ -10,8 +10,8 @@ returns c =
     record {
       loads = refl;
       answer = elim c.match-fault-3.branch [
-          in-Some w ↦ fault_ends j c.args.self w.in-Some.fault c.match-fault-3.answer c.if-waits.false w.in-Some.is w.answer-is
+        | in-Some w ↦ fault_ends j c.args.self w.in-Some.fault c.match-fault-3.answer c.if-waits.false w.in-Some.is w.answer-is
         | in-None+in_ok-joined-in-None w ↦
-          values_end j c.args.self w.in_ok-joined-in-None.field-0 c.match-fault-3.answer c.if-waits.false w.in-None.is w.in_ok-joined-in-None.ensures w.answer-is
+            values_end j c.args.self w.in_ok-joined-in-None.field-0 c.match-fault-3.answer c.if-waits.false w.in-None.is w.in_ok-joined-in-None.ensures w.answer-is
       ];
     }
