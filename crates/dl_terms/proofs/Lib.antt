@@ -15,3 +15,4 @@ mod WholeNumbers
 mod PartAnswers
 mod AnswerParts
 pub mod WaitingKeys
+mod NeededKeys
