@@ -72,11 +72,20 @@ static inline void dl_write_answer(FILE *to, dl_loader *loader, uint32_t at, dl_
     fputc(']', to);
 }
 
-/* The limits of a loader, by which its script begins. */
-static inline void dl_write_limits(FILE *to, int version, const dl_serial_opening *opened)
+/* What a loader was opened with, by which its script begins. */
+static inline void dl_write_opened(FILE *to, const dl_opened *opened)
 {
-    fprintf(to, "{\"script\":%d,\"maxBatchSize\":%lu,\"maxCells\":%lu,\"maxCalls\":%lu,", version, (unsigned long)opened->max_batch,
-            (unsigned long)opened->max_cells, (unsigned long)opened->max_calls);
+    const uint8_t *name = opened->names;
+
+    fprintf(to, "{\"script\":%d,\"maxBatchSize\":%lu,\"maxCells\":%lu,\"maxCalls\":%lu,", opened->is_by_table ? 2 : 1,
+            (unsigned long)opened->opening.max_batch, (unsigned long)opened->opening.max_cells, (unsigned long)opened->opening.max_calls);
+    fputs(opened->is_by_table ? "\"tableLimits\":[" : "", to);
+    for (size_t i = 0; i < opened->tables_len; name += opened->tables[i].name_len, i++) {
+        fputs(i > 0 ? ",[" : "[", to);
+        dl_write_text(to, name, opened->tables[i].name_len);
+        fprintf(to, ",%lu]", (unsigned long)opened->tables[i].limit);
+    }
+    fputs(opened->is_by_table ? "]," : "", to);
 }
 
 /* The calls, and on a line of their own the answers. */
@@ -97,26 +106,18 @@ static inline void dl_write_events(FILE *to, dl_loader *loader)
     fputs("]\n", to);
 }
 
-/* Writes the history of a loader that dl_loader_open opened so. If a write fails, ferror says so. */
-static inline void dl_write_history(FILE *to, dl_loader *loader, const dl_serial_opening *opened)
+/* Writes the history of a loader that was closed. If a write fails, ferror says so.
+ * DL_DONE; or, with nothing written, DL_OPEN: the loader isn't closed. */
+static inline uint32_t dl_write_history(FILE *to, dl_loader *loader)
 {
-    dl_write_limits(to, 1, opened);
-    dl_write_events(to, loader);
-}
+    uint32_t code = dl_loader_event(loader, 0).code;
 
-/* The same of one that dl_loader_open_by_table opened so. */
-static inline void dl_write_history_by_table(FILE *to, dl_loader *loader, const dl_serial_opening *opened, const uint8_t *names,
-                                             const dl_table_limit *tables, size_t tables_len)
-{
-    dl_write_limits(to, 2, opened);
-    fputs("\"tableLimits\":[", to);
-    for (size_t i = 0; i < tables_len; names += tables[i].name_len, i++) {
-        fputs(i > 0 ? ",[" : "[", to);
-        dl_write_text(to, names, tables[i].name_len);
-        fprintf(to, ",%lu]", (unsigned long)tables[i].limit);
+    if (code != DL_DONE && code != DL_NO_EVENT) {
+        return code;
     }
-    fputs("],", to);
+    dl_write_opened(to, dl_loader_opened(loader));
     dl_write_events(to, loader);
+    return DL_DONE;
 }
 
 #endif

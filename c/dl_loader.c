@@ -8,6 +8,7 @@
 #include <pthread.h>
 #include <stdatomic.h>
 #include <stdlib.h>
+#include <string.h>
 
 #ifdef DL_HELGRIND
 #include <valgrind/helgrind.h>
@@ -33,6 +34,8 @@ struct dl_loader {
     bool is_over;     /* under the lock: stopped or closed, so that no empty cell gets a word */
     uint32_t cell_count;
     cell *cells;
+    dl_opened opened;        /* written by the open alone */
+    dl_table_limit tables[]; /* its limits, and behind them its names */
 };
 
 static void enter(dl_loader *loader)
@@ -102,17 +105,33 @@ static bool make_parts(dl_loader *loader, uint32_t cell_count)
     return true;
 }
 
-/* A loader with this handle, or DL_OUT_OF_MEMORY with the handle freed. */
-static uint32_t make_loader(dl_loader **place, dl_serial serial, uint32_t cell_count)
+/* Keeps what a loader was opened with, but for the seeds, in a loader that has room for the names and limits. */
+static void keep_opened(dl_loader *loader, const dl_opened *opened)
 {
-    dl_loader *loader = calloc(1, sizeof *loader);
+    uint8_t *names = (uint8_t *)&loader->tables[opened->tables_len];
 
-    if (loader == NULL || !make_parts(loader, cell_count)) {
+    loader->opened = *opened;
+    loader->opened.opening.seed_low = loader->opened.opening.seed_high = 0;
+    loader->opened.tables = loader->tables;
+    loader->opened.names = names;
+    if (opened->is_by_table) {
+        memcpy(loader->tables, opened->tables, opened->tables_len * sizeof *opened->tables);
+        memcpy(names, opened->names, opened->names_len);
+    }
+}
+
+/* A loader with this handle, which was opened so, or DL_OUT_OF_MEMORY with the handle freed. */
+static uint32_t make_loader(dl_loader **place, dl_serial serial, const dl_opened *opened)
+{
+    dl_loader *loader = calloc(1, sizeof *loader + opened->tables_len * sizeof *opened->tables + opened->names_len);
+
+    if (loader == NULL || !make_parts(loader, opened->opening.max_cells)) {
         dl_serial_free(&serial);
         free(loader);
         return DL_OUT_OF_MEMORY;
     }
     loader->serial = serial;
+    keep_opened(loader, opened);
     *place = loader;
     return DL_DONE;
 }
@@ -120,18 +139,25 @@ static uint32_t make_loader(dl_loader **place, dl_serial serial, uint32_t cell_c
 uint32_t dl_loader_open(dl_loader **loader, const dl_serial_opening *opening)
 {
     dl_serial serial = {0};
+    dl_opened opened = {.opening = *opening};
     uint32_t code = dl_serial_open(&serial, opening);
 
-    return code == DL_DONE ? make_loader(loader, serial, opening->max_cells) : code;
+    return code == DL_DONE ? make_loader(loader, serial, &opened) : code;
 }
 
 uint32_t dl_loader_open_by_table(dl_loader **loader, const dl_serial_opening *opening, const uint8_t *names, size_t names_len,
                                  const dl_table_limit *tables, size_t tables_len)
 {
     dl_serial serial = {0};
+    dl_opened opened = {*opening, true, names, tables, names_len, tables_len};
     uint32_t code = dl_serial_open_by_table(&serial, opening, names, names_len, tables, tables_len);
 
-    return code == DL_DONE ? make_loader(loader, serial, opening->max_cells) : code;
+    return code == DL_DONE ? make_loader(loader, serial, &opened) : code;
+}
+
+const dl_opened *dl_loader_opened(const dl_loader *loader)
+{
+    return &loader->opened;
 }
 
 void dl_loader_free(dl_loader *loader)

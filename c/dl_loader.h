@@ -11,8 +11,8 @@
  *
  * What the calls say of codes, pointers and memory in dl_serial.h holds here too. No call waits but dl_loader_wait and
  * dl_loader_wait_until; the others may wait for the lock, which is never held for longer than one call of dl_serial.h, and the cells
- * of one batch, take. Make no call in a signal handler, nor in the forked child of a process with threads. dl_serial is proved, and
- * the lock, the words and the waits are tested.
+ * of one batch, take. Make no call in a signal handler, nor in the forked child of a process with threads, and cancel no thread
+ * (pthread_cancel) that is in a call. dl_serial is proved, and the lock, the words and the waits are tested.
  */
 #ifndef DL_LOADER_H
 #define DL_LOADER_H
@@ -20,6 +20,9 @@
 #include "dl_serial.h"
 
 #include <time.h>
+
+/* A C99 that isn't asked for POSIX has no such type in time.h. */
+struct timespec;
 
 #ifdef __cplusplus
 extern "C" {
@@ -51,6 +54,18 @@ uint32_t dl_loader_open(dl_loader **loader, const dl_serial_opening *opening);
  * DL_DONE; or, with nothing written, a code of dl_serial_open_by_table. */
 uint32_t dl_loader_open_by_table(dl_loader **loader, const dl_serial_opening *opening, const uint8_t *names, size_t names_len,
                                  const dl_table_limit *tables, size_t tables_len);
+
+/* What a loader was opened with: the limits and callers, and of one by table the names and limits of tables, else none. The seeds are 0. */
+typedef struct dl_opened {
+    dl_serial_opening opening;
+    bool is_by_table;
+    const uint8_t *names;
+    const dl_table_limit *tables;
+    size_t names_len, tables_len;
+} dl_opened;
+
+/* What this loader was opened with, without the lock. The loader keeps it until it is freed. */
+const dl_opened *dl_loader_opened(const dl_loader *loader);
 
 /* ---- calls of callers: each that is made is the last event of the history from then on */
 

@@ -21,7 +21,7 @@ enum {
     DL_BAD_KEY = 7,          /* a text of the key is no UTF-8, is empty, or is too long */
     DL_BAD_LIMIT = 8,        /* a limit is not 1 to 65,536 */
     DL_CLOSED = 9,           /* the handle has no desk, or no loader */
-    DL_OPEN = 10,            /* the handle has a desk or a loader already */
+    DL_OPEN = 10,            /* the handle has a desk or a loader already; of a history: its loader isn't closed */
     DL_NO_MEMBER = 11,       /* the batch has no member of this index */
     DL_BAD_LENGTHS = 12,     /* lengths don't add up to the texts, or are not as many as the answers */
     DL_BAD_TEXT = 13,        /* the name of a table is no UTF-8 */

@@ -322,6 +322,12 @@ static void a_stopped_loader_takes_no_events(void)
     CHECK(dl_loader_saw(loader, 0, 0) == DL_DONE);
     CHECK(dl_loader_close(loader) == DL_UNSETTLED);
     dl_loader_free(loader);
+    /* With no batch open it closes as ever. */
+    loader = open_loader(1, 8, 16, 1);
+    CHECK(gives(dl_loader_load(loader, 0, USER("a")), DL_FRESH, 0, 0, 0) && sent(dl_loader_dispatch(loader, 0), 0, 1));
+    CHECK(dl_loader_settle(loader, 0, 0, words, 1) == DL_DONE && dl_loader_stop(loader) == DL_DONE);
+    CHECK(dl_loader_close(loader) == DL_DONE && dl_loader_event(loader, 2).code == DL_DONE);
+    dl_loader_free(loader);
 }
 
 static void a_wait_may_have_a_deadline(void)
@@ -442,6 +448,19 @@ static void the_close_gives_the_history(void)
     dl_loader_free(loader);
 }
 
+/* Whether a loader's history is written as this text, and answered by this code. */
+static bool is_written(dl_loader *loader, uint32_t code, const char *wanted)
+{
+    char *text = NULL;
+    size_t len = 0;
+    FILE *to = open_memstream(&text, &len);
+    bool is = to != NULL && dl_write_history(to, loader) == code;
+
+    is = to != NULL && fclose(to) == 0 && is && strcmp(text, wanted) == 0;
+    free(text);
+    return is;
+}
+
 static void a_history_is_written_as_two_lines_of_json(void)
 {
     static const char wanted[] =
@@ -449,18 +468,21 @@ static void a_history_is_written_as_two_lines_of_json(void)
         "{\"loadMany\":[[\"user\",\"b\"],[\"user\",\"a\"]]},{\"prime\":[\"user\",\"c\"]},{\"prime\":[\"user\",\"c\"]},{\"clear\":[\"user\",\"a\"]},"
         "{\"clearAll\":true},{\"dispatch\":true},{\"settle\":0},{\"fail\":1}]}\n"
         "[[0,1,0,0],[1,1,1,1,0,0,0],[0,1,2,0],[0,0,0,0],[1],[0],[1,0,1],[0],[1]]\n";
-    const dl_serial_opening opening = opening_of(1, 8, 16, 2);
     dl_loader *loader = with_each_call();
-    char *text = NULL;
-    size_t len = 0;
-    FILE *to = open_memstream(&text, &len);
 
-    CHECK(to != NULL && dl_loader_close(loader) == DL_DONE);
-    if (to != NULL) {
-        dl_write_history(to, loader, &opening);
-        CHECK(fclose(to) == 0 && strcmp(text, wanted) == 0);
-    }
-    free(text);
+    CHECK(is_written(loader, DL_OPEN, ""));
+    CHECK(dl_loader_close(loader) == DL_DONE);
+    CHECK(is_written(loader, DL_DONE, wanted));
+    dl_loader_free(loader);
+}
+
+static void a_history_may_have_no_calls(void)
+{
+    dl_loader *loader = open_loader(1, 2, 3, 1);
+
+    CHECK(dl_loader_stop(loader) == DL_DONE && is_written(loader, DL_OPEN, ""));
+    CHECK(dl_loader_close(loader) == DL_DONE);
+    CHECK(is_written(loader, DL_DONE, "{\"script\":1,\"maxBatchSize\":1,\"maxCells\":2,\"maxCalls\":3,\"calls\":[]}\n[]\n"));
     dl_loader_free(loader);
 }
 
@@ -469,24 +491,49 @@ static void a_history_by_table_is_written_with_the_limits_of_tables(void)
     static const char wanted[] = "{\"script\":2,\"maxBatchSize\":2,\"maxCells\":8,\"maxCalls\":16,\"tableLimits\":[[\"s\",1],[\"tt\",3]],"
                                  "\"calls\":[{\"load\":[\"t\",\"a\"]},{\"load\":[\"s\",\"x\"]},{\"dispatch\":true},{\"fail\":1},{\"fail\":0}]}\n"
                                  "[[0,1,0,0],[0,1,1,1],[0,0,1],[0],[0]]\n";
-    static const dl_table_limit tables[2] = {{1, 1}, {2, 3}};
-    const dl_serial_opening opening = opening_of(2, 8, 16, 1);
+    static const char none[] = "{\"script\":2,\"maxBatchSize\":2,\"maxCells\":8,\"maxCalls\":16,\"tableLimits\":[],\"calls\":[]}\n[]\n";
+    dl_table_limit tables[2] = {{1, 1}, {2, 3}};
+    char names[] = "stt";
     dl_loader *loader = NULL;
-    char *text = NULL;
-    size_t len = 0;
-    FILE *to = open_memstream(&text, &len);
 
-    CHECK(open_by_table(&loader, "stt", tables, 2) == DL_DONE);
+    CHECK(open_by_table(&loader, names, tables, 2) == DL_DONE);
+    /* The loader keeps them, and no pointer to them. */
+    memset(tables, 42, sizeof tables);
+    memset(names, 42, sizeof names);
     dl_loader_load(loader, 0, KEY("t", "a"));
     dl_loader_load(loader, 0, KEY("s", "x"));
     dl_loader_dispatch(loader, 0);
     CHECK(dl_loader_fail(loader, 0, 1, 0) == DL_DONE && dl_loader_fail(loader, 0, 0, 0) == DL_DONE);
-    CHECK(to != NULL && dl_loader_close(loader) == DL_DONE);
-    if (to != NULL) {
-        dl_write_history_by_table(to, loader, &opening, (const uint8_t *)"stt", tables, 2);
-        CHECK(fclose(to) == 0 && strcmp(text, wanted) == 0);
-    }
-    free(text);
+    CHECK(is_written(loader, DL_OPEN, ""));
+    CHECK(dl_loader_close(loader) == DL_DONE);
+    CHECK(is_written(loader, DL_DONE, wanted));
+    dl_loader_free(loader);
+    /* With no table that has a limit of its own each batch is of one table still. */
+    CHECK(open_by_table(&loader, "", tables, 0) == DL_DONE && dl_loader_close(loader) == DL_DONE);
+    CHECK(is_written(loader, DL_DONE, none));
+    dl_loader_free(loader);
+}
+
+static bool is_opening(dl_serial_opening opening, uint32_t max_batch, uint32_t max_cells, uint32_t max_calls, uint32_t callers)
+{
+    return opening.max_batch == max_batch && opening.max_cells == max_cells && opening.max_calls == max_calls &&
+           opening.callers == callers && opening.seed_low == 0 && opening.seed_high == 0;
+}
+
+static void a_loader_keeps_what_it_was_opened_with(void)
+{
+    static const dl_table_limit tables[2] = {{1, 1}, {2, 3}};
+    dl_loader *loader = open_loader(1, 2, 3, 4);
+    const dl_opened *opened = dl_loader_opened(loader);
+
+    CHECK(is_opening(opened->opening, 1, 2, 3, 4) && !opened->is_by_table && opened->names_len == 0 && opened->tables_len == 0);
+    dl_loader_free(loader);
+    CHECK(open_by_table(&loader, "stt", tables, 2) == DL_DONE);
+    opened = dl_loader_opened(loader);
+    CHECK(is_opening(opened->opening, 2, 8, 16, 1) && opened->is_by_table);
+    CHECK(opened->names_len == 3 && memcmp(opened->names, "stt", 3) == 0);
+    CHECK(opened->tables_len == 2 && memcmp(opened->tables, tables, sizeof tables) == 0);
+    CHECK(dl_loader_close(loader) == DL_DONE && dl_loader_opened(loader) == opened);
     dl_loader_free(loader);
 }
 
@@ -534,7 +581,9 @@ int main(void)
     a_wait_may_have_a_deadline();
     threads_that_wait_are_woken();
     the_close_gives_the_history();
+    a_loader_keeps_what_it_was_opened_with();
     a_history_is_written_as_two_lines_of_json();
+    a_history_may_have_no_calls();
     a_history_by_table_is_written_with_the_limits_of_tables();
     texts_of_json_are_quoted();
     a_closed_loader_takes_no_calls_and_keeps_its_words();

@@ -5,6 +5,7 @@
 #include <cstdlib>
 #include <new>
 #include <thread>
+#include <type_traits>
 
 static unsigned passed, failed;
 static bool is_out_of_memory;
@@ -153,6 +154,43 @@ static void a_job_that_goes_fails() {
     loader.close();
 }
 
+static void a_job_ends_once() {
+    dl::loader loader(opening(1));
+    for (const char *id : {"a", "b", "c"}) loader.load(0, {"user", id});
+    auto jobs = loader.dispatch(0);
+    jobs[0].settle({5, 6});
+    CHECK(refusal([&] { jobs[0].settle({5, 6}); }) == DL_ENDED_BEFORE && refusal([&] { jobs[0].fail(7); }) == DL_ENDED_BEFORE);
+    CHECK(refusal([&] { jobs[0].members(); }) == DL_ENDED_BEFORE && jobs[0].batch() == 0);
+    jobs[1].fail(9);
+    CHECK(refusal([&] { jobs[1].settle({1}); }) == DL_ENDED_BEFORE && refusal([&] { jobs[1].members(); }) == DL_ENDED_BEFORE);
+    CHECK(shows(loader.look(0), DL_SETTLED, 5) && shows(loader.look(2), DL_FAILED, 9));
+    jobs.clear();
+    loader.close();
+}
+
+static void a_job_is_moved_and_assigned() {
+    static_assert(std::is_nothrow_move_assignable_v<dl::job> && !std::is_copy_assignable_v<dl::job>);
+    dl::loader loader(opening(1));
+    for (const char *id : {"a", "b", "c", "d", "e"}) loader.load(0, {"user", id});
+    auto jobs = loader.dispatch(0);
+    dl::job first(std::move(jobs[0]));
+    CHECK(refusal([&] { jobs[0].settle({1, 2}); }) == DL_ENDED_BEFORE && refusal([&] { jobs[0].members(); }) == DL_ENDED_BEFORE);
+    CHECK(refusal([&] { jobs[0].fail(1); }) == DL_ENDED_BEFORE && shows(loader.look(0), DL_EMPTY, 0));
+    auto &same = first;
+    first = std::move(same);
+    CHECK(first.members().size() == 2);
+    // The batch that it had fails.
+    first = std::move(jobs[1]);
+    CHECK(shows(loader.look(0), DL_FAILED, 0) && shows(loader.look(1), DL_FAILED, 0) && shows(loader.look(2), DL_EMPTY, 0));
+    CHECK(first.batch() == 1 && refusal([&] { jobs[1].members(); }) == DL_ENDED_BEFORE);
+    first.settle({3, 4});
+    // One that has ended, and then goes, fails nothing.
+    first = std::move(jobs[2]);
+    CHECK(shows(loader.look(2), DL_SETTLED, 3) && shows(loader.look(4), DL_EMPTY, 0));
+    first.settle({5});
+    loader.close();
+}
+
 static void a_job_that_nothing_ends_stops_the_loader() {
     dl_serial_opening few = opening(1);
     few.max_calls = 2;
@@ -183,7 +221,39 @@ static void a_loader_is_moved() {
     CHECK(first.get() == nullptr && second.load(0, {"user", "a"}).code == DL_HIT);
     dl::loader third(opening(1));
     third = std::move(second);
+    CHECK(third.load(0, {"user", "a"}).code == DL_HIT && second.get() == nullptr);
+    auto &same = third;
+    third = std::move(same);
     CHECK(third.load(0, {"user", "a"}).code == DL_HIT);
+}
+
+static void a_loader_that_was_moved_takes_no_calls() {
+    dl::loader first(opening(1));
+    dl::loader second(std::move(first));
+    auto is_closed = [](auto call) { return refusal(call) == DL_CLOSED; };
+    CHECK(is_closed([&] { first.load(0, {"user", "a"}); }) && is_closed([&] { first.load_many(0, {{"user", "a"}}); }));
+    CHECK(is_closed([&] { first.prime(0, {"user", "a"}, 1); }) && is_closed([&] { first.clear(0, {"user", "a"}); }));
+    CHECK(is_closed([&] { first.clear_all(0); }) && is_closed([&] { (void)first.dispatch(0); }));
+    CHECK(is_closed([&] { first.look(0); }) && is_closed([&] { first.wait(0); }));
+    CHECK(is_closed([&] { first.wait_for(0, std::chrono::hours(1)); }));
+    CHECK(is_closed([&] { first.wait_until(0, std::chrono::steady_clock::now()); }));
+    CHECK(is_closed([&] { first.saw(0, 0); }) && is_closed([&] { first.stop(); }) && is_closed([&] { first.close(); }));
+    CHECK(is_closed([&] { first.events(); }) && is_closed([&] { first.entries(0); }) && is_closed([&] { first.write_history(stdout); }));
+    second.close();
+}
+
+static void a_history_is_written() {
+    dl::loader loader(opening(1), {{"user", 1}});
+    loader.load(0, {"user", "a"});
+    for (auto &job : loader.dispatch(0)) job.fail(0);
+    char text[200] = {};
+    FILE *to = fmemopen(text, sizeof text, "w");
+    CHECK(to != nullptr && refusal([&] { loader.write_history(to); }) == DL_OPEN);
+    loader.close();
+    loader.write_history(to);
+    CHECK(std::fclose(to) == 0);
+    CHECK(text == std::string("{\"script\":2,\"maxBatchSize\":2,\"maxCells\":64,\"maxCalls\":256,\"tableLimits\":[[\"user\",1]],"
+                              "\"calls\":[{\"load\":[\"user\",\"a\"]},{\"dispatch\":true},{\"fail\":0}]}\n[[0,1,0,0],[0,0],[0]]\n"));
 }
 
 static void a_wait_has_a_deadline() {
@@ -192,9 +262,26 @@ static void a_wait_has_a_deadline() {
     loader.load(0, {"user", "a"});
     CHECK(shows(loader.wait_for(0, 0ns), DL_EMPTY, 0) && shows(loader.wait_for(0, 20ms), DL_EMPTY, 0));
     CHECK(shows(loader.wait_until(0, std::chrono::steady_clock::now() - 1h), DL_EMPTY, 0));
-    std::thread waits([&] { CHECK(shows(loader.wait_for(0, std::chrono::nanoseconds::max()), DL_SETTLED, 3)); });
+    CHECK(shows(loader.wait_until(0, std::chrono::steady_clock::time_point::min()), DL_EMPTY, 0));
+    CHECK(shows(loader.wait_for(0, -1ns), DL_EMPTY, 0) && shows(loader.wait_for(0, std::chrono::hours::min()), DL_EMPTY, 0));
+    CHECK(shows(loader.wait_for(0, std::chrono::duration<float, std::milli>(0.5f)), DL_EMPTY, 0));
+    std::vector<dl_shown> shown(6);
+    std::vector<std::thread> waits;
+    auto wait = [&](auto most) { waits.emplace_back([&, most, at = waits.size()] { shown[at] = loader.wait_for(0, most); }); };
+    wait(std::chrono::nanoseconds::max());
+    wait(std::chrono::seconds::max());
+    wait(std::chrono::hours::max());
+    wait(std::chrono::duration<std::int64_t, std::ratio<86400>>::max());
+    wait(std::chrono::duration<double>::max());
+    waits.emplace_back([&] { shown[5] = loader.wait_until(0, std::chrono::steady_clock::time_point::max()); });
+    // A wait that ends at once would find the cell empty.
+    std::this_thread::sleep_for(20ms);
     loader.dispatch(0)[0].settle({3});
-    waits.join();
+    for (auto &thread : waits) thread.join();
+    for (auto &each : shown) CHECK(shows(each, DL_SETTLED, 3));
+    CHECK(shows(loader.wait_until(0, std::chrono::steady_clock::time_point::min()), DL_SETTLED, 3));
+    loader.stop();
+    CHECK(shows(loader.wait_until(1, std::chrono::steady_clock::time_point::min()), DL_ABANDONED, 0));
 }
 
 static void threads_share_a_loader() {
@@ -228,9 +315,13 @@ int main() {
     the_history_is_read_after_the_close();
     what_is_refused_is_thrown();
     a_job_that_goes_fails();
+    a_job_ends_once();
+    a_job_is_moved_and_assigned();
     a_job_that_nothing_ends_stops_the_loader();
     a_dispatch_without_memory_stops_the_loader();
     a_loader_is_moved();
+    a_loader_that_was_moved_takes_no_calls();
+    a_history_is_written();
     a_wait_has_a_deadline();
     threads_share_a_loader();
     std::printf("%u passed, %u failed\n", passed, failed);

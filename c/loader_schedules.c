@@ -595,7 +595,7 @@ static const char *audit(const history *self)
 }
 
 /* Holds the history that a closed loader gives against the definitions, and then a change of it, which has to be wrong. */
-static const char *audit_both(dl_loader *loader, const dl_serial_opening *opened, uint64_t seed, bool tells)
+static const char *audit_both(dl_loader *loader, uint64_t seed, bool tells)
 {
     const char *fault = read_history(&told, loader);
 
@@ -605,13 +605,13 @@ static const char *audit_both(dl_loader *loader, const dl_serial_opening *opened
     }
     if (tells) {
         tell(&told, callers, false);
-        dl_write_history(stdout, loader, opened);
+        fault = dl_write_history(stdout, loader) == DL_DONE ? NULL : "the history, written";
     }
     spoil(&told, seed);
     if (tells) {
         tell(&told, callers, true);
     }
-    return audit(&told) == NULL ? "a change goes unseen" : NULL;
+    return audit(&told) == NULL ? "a change goes unseen" : fault;
 }
 
 /* Runs the threads, and gives what is wrong. */
@@ -641,7 +641,7 @@ static const char *run(uint64_t seed, bool tells)
         fault = fault == NULL ? callers[i].fault : fault;
     }
     fault = fault == NULL && dl_loader_close(loader) != DL_DONE ? "close" : fault;
-    fault = fault == NULL ? audit_both(loader, &opening, seed, tells) : fault;
+    fault = fault == NULL ? audit_both(loader, seed, tells) : fault;
     dl_loader_free(loader);
     return fault;
 }

@@ -1,6 +1,7 @@
 // Two threads of one request load the same keys, by the loader that threads share. Its history says what was fetched.
 #include "dl_loader.hpp"
 
+#include <atomic>
 #include <functional>
 #include <future>
 #include <iostream>
@@ -15,9 +16,12 @@ static void fetch(dl::loader &loader, std::uint32_t caller) {
     }
 }
 
-static std::string request(dl::loader &loader, std::uint32_t caller) {
+// The threads that haven't loaded all that they can: the last one fetches for all.
+static std::atomic<int> loading = 2;
+
+static std::string request(dl::loader &loader, std::uint32_t caller) try {
     auto tickets = loader.load_many(caller, {{"user", "ada"}, {"user", "grace"}, {"order", "7"}});
-    fetch(loader, caller);
+    if (--loading == 0) fetch(loader, caller);
     std::string words = "caller " + std::to_string(caller) + ":";
     for (auto &ticket : tickets) {
         dl_shown shown = loader.wait(ticket.cell);
@@ -25,6 +29,9 @@ static std::string request(dl::loader &loader, std::uint32_t caller) {
         words += shown.state == DL_SETTLED ? " " + std::to_string(shown.word) : " no value";
     }
     return words;
+} catch (...) {
+    loader.stop(); // so that no thread waits for this one
+    throw;
 }
 
 int main() try {

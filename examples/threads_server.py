@@ -70,7 +70,8 @@ def names_view(request):
     return [author.result()["name"] for author in authors]
 
 
-VIEWS = {"posts": posts_view, "post": post_view, "user": user_view, "names": names_view}
+# Each view by its name, and by how many numbers it takes.
+VIEWS = {("posts", 0): posts_view, ("post", 1): post_view, ("user", 1): user_view, ("names", 0): names_view}
 
 
 def not_found(start_response):
@@ -88,11 +89,12 @@ class Application:
 
     def __call__(self, environ, start_response):
         name, *numbers = environ["PATH_INFO"].strip("/").split("/")
-        if name not in VIEWS or not all(number.isdecimal() for number in numbers):
+        view = VIEWS.get((name, len(numbers)))
+        if view is None or not all(number.isdecimal() and len(number) < 19 for number in numbers):  # SQLite takes no larger ones.
             return not_found(start_response)
         request = Request(self.path, self.kind)
         try:
-            answer = VIEWS[name](request, *map(int, numbers))
+            answer = view(request, *map(int, numbers))
             answer = answer if isinstance(answer, list) else run(answer)
         finally:
             request.database.close()

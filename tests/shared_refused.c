@@ -6,7 +6,8 @@
 #include "refused_calls.h"
 
 /* The calls. What makes a loader or a cell, up to PRIME, grows. */
-enum { OPEN, OPEN_BY_TABLE, LOAD, LOAD_MANY, PRIME, CLEAR, CLEAR_ALL, DISPATCH, MEMBER, SETTLE, FAIL, LOOK, SAW, CLOSE, EVENT, FREE };
+enum { OPEN, OPEN_BY_TABLE, LOAD, LOAD_MANY, PRIME, CLEAR, CLEAR_ALL, DISPATCH, MEMBER, SETTLE, FAIL, LOOK, SAW, CLOSE, EVENT,
+       OPENED, FREE };
 
 static const dl_serial_opening opening = {.max_batch = 2, .max_cells = 64, .max_calls = 64, .callers = 2, .seed_low = 1, .seed_high = 2};
 
@@ -31,6 +32,18 @@ static answer load_many(dl_loader *loader, uint32_t caller, const char *ids)
         given.first += answers[i].cell;
         given.second += answers[i].batch;
         given.third += answers[i].code;
+    }
+    return given;
+}
+
+/* The code 1 if its batches are of one table, its callers, the bytes of the names of its tables, and the sum of their limits. */
+static answer opened(const dl_loader *loader)
+{
+    const dl_opened *with = dl_loader_opened(loader);
+    answer given = {with->is_by_table, with->opening.callers, (uint32_t)with->names_len, 0};
+
+    for (size_t i = 0; i < with->tables_len; i++) {
+        given.third += with->tables[i].limit;
     }
     return given;
 }
@@ -98,6 +111,8 @@ static answer make(dl_loader **loader, const call *call)
         return (answer){dl_loader_close(*loader), 0, 0, 0};
     case EVENT:
         return history(*loader);
+    case OPENED:
+        return opened(*loader);
     case FREE:
         dl_loader_free(*loader);
         break;
@@ -107,6 +122,7 @@ static answer make(dl_loader **loader, const call *call)
 
 static const call CALLS[] = {
     {OPEN, "", 0, {DL_DONE, 0, 0, 0}, true},
+    {OPENED, "", 0, {0, 2, 0, 0}, false},
     {LOAD, "a", 0, {DL_FRESH, 0, 0, 0}, true},
     {LOAD, "b", 0, {DL_FRESH, 1, 0, 1}, true},
     {LOAD, "a", 1, {DL_HIT, 0, 0, 0}, true},
@@ -142,6 +158,7 @@ static const call CALLS[] = {
     {FREE, "", 0, {0, 0, 0, 0}, false},
     /* A batch of this loader has one key of the table. */
     {OPEN_BY_TABLE, "", 0, {DL_DONE, 0, 0, 0}, true},
+    {OPENED, "", 0, {1, 2, 12, 6}, false},
     {LOAD, "a", 0, {DL_FRESH, 0, 0, 0}, true},
     {LOAD_MANY, "bac", 0, {DL_DONE, 1 + 0 + 2, 1 + 2, 2}, true},
     {DISPATCH, "", 0, {DL_DONE, 0, 3, 0}, true},

@@ -411,6 +411,8 @@ class Refusals(unittest.IsolatedAsyncioTestCase):
             {"cache_map": []},
             {"name": 3},
             {"max_cells": "3"},
+            {"batch": 1},
+            {"cache": "yes"},
         ):
             with self.assertRaises(TypeError, msg=str(options)):
                 loader_of([], **options)

@@ -11,6 +11,7 @@ import tempfile
 import unittest
 
 import thrushscreen
+from test_example import PROGRAM, TOP
 from thrushscreen import _desk, _shared, shared, threads
 
 TESTS = pathlib.Path(__file__).resolve().parent
@@ -38,6 +39,7 @@ WRONG = {
     "shown: int = ThreadedDataLoader[int, str](fetch_here).load(1)": "assignment",
     "later: Future[int] = ThreadedDataLoader[int, str](fetch_here).submit(1)": "assignment",
     'ThreadedDataLoader[int, str](fetch_here, delay="soon")': "arg-type",
+    "ThreadedDataLoader[int, str](fetch_here).held(1)": "attr-defined",
 }
 
 
@@ -107,11 +109,11 @@ class Files(unittest.TestCase):
 if os.path.realpath(sys.executable).startswith("/usr/bin/"):
 
     class Types(unittest.TestCase):
-        def check(self, *files):
+        def check(self, *files, strict=("--strict",)):
             with tempfile.TemporaryDirectory() as cache:
                 shutil.copytree(PACKAGE, f"{cache}/source/thrushscreen", ignore=shutil.ignore_patterns("*.so", "__pycache__"))
                 environment = {**os.environ, "MYPYPATH": f"{cache}/source", "PYTHONPATH": ""}
-                command = ["/usr/bin/mypy", "--strict", "--python-version", "3.10", "--cache-dir", cache, "--no-error-summary", *files]
+                command = ["/usr/bin/mypy", *strict, "--python-version", "3.10", "--cache-dir", cache, "--no-error-summary", *files]
                 return subprocess.run(command, capture_output=True, text=True, env=environment, cwd=cache)
 
         def test_the_package_and_a_program_have_types(self):
@@ -119,6 +121,12 @@ if os.path.realpath(sys.executable).startswith("/usr/bin/"):
             self.assertEqual((ran.stdout, ran.returncode), ("", 0), ran.stderr)
             ran = self.check(TESTS / "typed.py")
             self.assertEqual((ran.stdout, ran.returncode), ("", 0), ran.stderr)
+
+        def test_the_programs_of_the_pages_need_no_more_types(self):
+            for page in ("python/README.md", "docs/guide/python.md"):
+                for program, _ in PROGRAM.findall((TOP / page).read_text()):
+                    ran = self.check("-c", program, strict=())
+                    self.assertEqual((ran.stdout, ran.returncode), ("", 0), program)
 
         def test_the_stubs_are_of_what_is_there(self):
             with tempfile.TemporaryDirectory() as cache:

@@ -141,6 +141,23 @@ class Loads(unittest.TestCase):
         self.assertIs(loader.clear_all(), loader)
         self.assertEqual((loader.load_many("ab"), batches), (["a", "b"], [["a"], ["a", "b"]]))
 
+    def test_a_key_is_primed_with_what_a_future_has_ended_with(self):
+        batches = []
+        loader = loader_of(batches, delay=0)
+        value, fault, cancelled, waits = (concurrent.futures.Future() for _ in range(4))
+        value.set_result(1)
+        fault.set_exception(Down("down"))
+        cancelled.cancel()
+        load = loader.submit("load")
+        for unfinished in (waits, load):
+            with self.assertRaisesRegex(ValueError, "future that has ended, and this one hasn't"):
+                loader.prime("waits", unfinished)
+        loader.dispatch()
+        loader.prime("value", value).prime("fault", fault).prime("cancelled", cancelled).prime("waits", load)
+        given = loader.load_many(["value", "fault", "cancelled", "waits"])
+        self.assertEqual((given[0], repr(given[1]), given[3], batches), (1, "Down('down')", "load", [["load"]]))
+        self.assertEqual((type(given[2]), type(given[2].__cause__)), (RuntimeError, concurrent.futures.CancelledError))
+
     def test_a_key_that_is_cleared_and_loaded_again_is_in_another_batch(self):
         batches = []
         loader = loader_of(batches, delay=0)
@@ -210,7 +227,10 @@ class Loads(unittest.TestCase):
             (ValueError, {"max_calls": 0}),
             (ValueError, {"delay": -1}),
             (ValueError, {"delay": math.nan}),
-            (ValueError, {"delay": "soon"}),
+            (TypeError, {"delay": "soon"}),
+            (TypeError, {"delay": True}),
+            (TypeError, {"batch": 1}),
+            (TypeError, {"cache": "yes"}),
             (TypeError, {"max_batch_size": "1"}),
             (TypeError, {"get_cache_key": 3}),
             (TypeError, {"name": 3}),
@@ -357,6 +377,76 @@ class Sending(unittest.TestCase):
             answers = in_threads([lambda number=number: request(number) for number in range(count)])
             self.assertEqual(answers, [[(turn, number // 2) for turn in range(3)] for number in range(count)])
             self.assertEqual([sorted(batch) for batch in batches], [[(turn, key) for key in range(count // 2)] for turn in range(3)])
+
+    def test_as_many_threads_as_are_said_send_one_batch_without_a_barrier(self):
+        for _ in range(100):
+            batches = []
+            loader = loader_of(batches)
+
+            def request(number):
+                with loader.calling(of=8):
+                    return loader.load_many([number, number + 1])
+
+            answers = in_threads([lambda number=number: request(number) for number in range(8)])
+            self.assertEqual(answers, [[number, number + 1] for number in range(8)])
+            self.assertEqual([sorted(batch) for batch in batches], [list(range(9))])
+
+    def test_threads_that_have_left_count_among_those_that_are_said(self):
+        batches = []
+        loader = loader_of(batches)
+        loader.prime("held", 0)
+
+        def request(number):
+            with loader.calling(of=4):
+                return loader.load("held" if number % 2 else number)
+
+        with loader.calling(of=4):
+            loader.load("held")
+        self.assertEqual((in_threads([lambda number=number: request(number) for number in range(3)]), len(batches)), ([0, 0, 2], 1))
+
+    def test_each_group_of_threads_is_counted_anew(self):
+        batches = []
+        loader = loader_of(batches)
+
+        def request(count, key):
+            with loader.calling(of=count):
+                return loader.load(key)
+
+        for count in (3, 8, 5):
+            in_threads([lambda key=(count, number): request(count, key) for number in range(count)])
+        self.assertEqual([sorted(batch) for batch in batches], [[(count, number) for number in range(count)] for count in (3, 8, 5)])
+
+    def test_a_thread_that_goes_on_to_the_next_group_does_not_hold_up_its_own(self):
+        batches = []
+        loader, start = loader_of(batches), threading.Barrier(2)
+
+        def goes_on():
+            with loader.calling(of=2):
+                loader.load("a")
+            start.wait(LONGEST)
+            with loader.calling(of=2):
+                return loader.load("b")
+
+        def stays():
+            with loader.calling(of=2):
+                loader.load("a")
+                start.wait(LONGEST)
+                while not loader._waiting:
+                    pass
+                loader.load("c")
+            with loader.calling(of=2):
+                return loader.load("d")
+
+        self.assertEqual(in_threads([goes_on, stays]), ["b", "d"])
+        self.assertEqual([sorted(batch) for batch in batches], [["a"], ["b", "c"], ["d"]])
+
+    def test_who_waits_for_threads_that_do_not_come_is_sent_after_the_delay(self):
+        loader = loader_of([], delay=0.002)
+        with loader.calling(of=2):
+            self.assertEqual(loader.load("a"), "a")
+        for fault, count in ((ValueError, 0), (TypeError, "2"), (TypeError, True)):
+            with self.assertRaisesRegex(fault, "of is"), loader.calling(of=count):
+                pass
 
     def test_a_thread_that_leaves_lets_the_others_send(self):
         batches = []
@@ -532,7 +622,7 @@ class Ends(unittest.TestCase):
 
     def test_a_loader_answers_after_an_interrupt_at_each_line(self):
         def request(loader):
-            with loader.calling():
+            with loader.calling(of=1):
                 loads = [loader.submit(key) for key in "ab"]
                 return [*results(loads), *loader.load_many("bc")]
 

@@ -95,10 +95,10 @@ class SharedUsers(ThreadedDataLoader[int, str]):
 def among_threads() -> None:
     with ThreadPoolExecutor() as executor:
         loader = ThreadedDataLoader(fetch_here, max_batch_size=10, get_cache_key=by_text, delay=0.01, executor=executor)
-        users = SharedUsers(name="users").prime(1, "one").prime(2, KeyError(2)).clear(1).clear_all()
-        with loader.calling():
+        with loader.calling(), loader.calling(of=1):
             future: Future[str] = loader.submit(1)
             value: str = loader.load(1, timeout=1)
+        users = SharedUsers(name="users").prime(1, "one").prime(2, KeyError(2)).prime(3, future).clear(1).clear_all()
         several: list[str | BaseException] = users.load_many([1, 2])
         raised: list[str] = users.load_many(range(3), return_exceptions=False, timeout=1)
     history: History = loader.close()

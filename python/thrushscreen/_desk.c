@@ -1933,9 +1933,9 @@ static bool read_options(Desk *self, Options *options)
             return false;
         }
     }
-    if (PyCallable_Check(options->batch_load_fn) && options->get_cache_key == Py_None && options->cache_map == Py_None &&
-        options->batch_schedule_fn == Py_None && options->name == Py_None && limit_of(options->max_batch_size) > 0 &&
-        limit_of(options->max_cells) > 0) {
+    if (PyCallable_Check(options->batch_load_fn) && PyBool_Check(options->batch) && PyBool_Check(options->cache) &&
+        options->get_cache_key == Py_None && options->cache_map == Py_None && options->batch_schedule_fn == Py_None &&
+        options->name == Py_None && limit_of(options->max_batch_size) > 0 && limit_of(options->max_cells) > 0) {
         return true;
     }
     none = call_method((PyObject *)self, self->module->check_options, NULL);
@@ -1946,14 +1946,13 @@ static bool read_options(Desk *self, Options *options)
 static PyObject *desk_open(Desk *self, PyObject *const *args, Py_ssize_t count)
 {
     Options options = {0};
-    int is_batched, is_cached;
     uint32_t code = DL_OUT_OF_MEMORY;
 
-    if (!read_options(self, &options) || (is_batched = PyObject_IsTrue(options.batch)) < 0 ||
-        (is_cached = PyObject_IsTrue(options.cache)) < 0) {
+    if (!read_options(self, &options)) {
         goto done;
     }
-    self->max_batch = is_batched ? limit_of(options.max_batch_size) : 1;
+    bool is_cached = options.cache == Py_True;
+    self->max_batch = options.batch == Py_True ? limit_of(options.max_batch_size) : 1;
     self->max_cells = limit_of(options.max_cells);
     /* The desk's keys are numbers that the loader gives in turn: nobody chooses them, so no seed has to be secret. */
     code = dl_desk_open(&self->desk, self->max_batch, self->max_cells, 0, 0);

@@ -119,6 +119,8 @@ class Options(Desk[K, V, A, F]):
                 _check_function(option, getattr(self, option))
         if self.cache_map is not None:
             checked_map(self.cache_map)
+        for option in ("batch", "cache"):
+            _check_type(option, getattr(self, option), bool)
         if self.name is not None:
             _check_type("name", self.name, str)
         if self.max_batch_size is not None:
@@ -170,7 +172,7 @@ def unhashable(key: object) -> TypeError | None:
 
 
 def _check_type(option: str, given: object, wanted: type) -> None:
-    if not isinstance(given, wanted) or isinstance(given, bool):
+    if not isinstance(given, wanted) or (isinstance(given, bool) and wanted is not bool):
         raise TypeError(f"{option} is of type {wanted.__name__}, and not {type(given).__name__}")
 
 

@@ -12,7 +12,7 @@ from contextlib import contextmanager
 from itertools import count
 from math import inf
 from time import monotonic
-from typing import Any, Generic, Literal, NamedTuple, NoReturn, TypeVar, Union, cast, overload
+from typing import TYPE_CHECKING, Any, Generic, Literal, NamedTuple, TypeVar, Union, cast, overload
 from weakref import WeakSet
 
 from ._options import LARGEST_LIMIT, _check_function, _check_limit, _check_type, fetched, unhashable
@@ -141,6 +141,14 @@ def _outcome(given: object) -> object:
     return _Error(given, given.__traceback__)
 
 
+def _outcome_of(future: Future[Any]) -> object:
+    """What a cell keeps of what a future has ended with."""
+    if not future.done():
+        raise ValueError("a key is primed with a future that has ended, and this one hasn't")
+    error = CancelledError() if future.cancelled() else future.exception()
+    return _outcome(future.result() if error is None else error)
+
+
 def _given(outcome: object) -> Any:
     """The value of an outcome, or its error is raised, each time with the same traceback."""
     if isinstance(outcome, _Error):
@@ -212,6 +220,13 @@ _waits: dict[int, _Wait] = {}
 _here = _Here()
 
 
+class _Kind(NamedTuple):
+    """Threads inside `calling` that are of as many: the place of the next one, and the places of those that have come in."""
+
+    places: Iterator[int]
+    come: set[int]
+
+
 class _Thread(threading.local):
     """What a loader knows of a thread: its number in the history, and the cells that it fetches."""
 
@@ -281,7 +296,8 @@ class ThreadedDataLoader(Generic[K, V]):
         self._numbers: dict[Hashable, int] = {}
         self._keys: dict[int, K] = {}
         self._mine = _Thread(count())
-        self._inside: dict[int, None] = {}
+        self._inside: dict[int, tuple[int, int]] = {}  # Of how many each thread is one, and how many of these come in by its group's end.
+        self._kinds: dict[int, _Kind] = {}
         self._waiting: dict[int, _Wait] = {}
         self._loads: dict[int, deque[_Load[V]]] = {}  # Those of cells that are empty.
         self._fault: BaseException | None = None
@@ -291,6 +307,8 @@ class ThreadedDataLoader(Generic[K, V]):
             raise TypeError("a loader needs a batch function")
         if self.get_cache_key is not None:
             _check_function("get_cache_key", self.get_cache_key)
+        for option in ("batch", "cache"):
+            _check_type(option, getattr(self, option), bool)
         if self.name is not None:
             _check_type("name", self.name, str)
         if self.executor is not None:
@@ -299,13 +317,17 @@ class ThreadedDataLoader(Generic[K, V]):
             _check_limit("max_batch_size", self.max_batch_size)
         _check_limit("max_cells", self.max_cells)
         _check_limit("max_calls", self.max_calls)
-        if not isinstance(self.delay, (int, float)) or not self.delay >= 0:
-            raise ValueError(f"delay is a number of seconds, and not {self.delay!r}")
+        if type(self.delay) is not int:
+            _check_type("delay", self.delay, float)
+        if not self.delay >= 0:
+            raise ValueError(f"delay is 0 seconds or more, and not {self.delay}")
 
-    def __getattr__(self, name: str) -> NoReturn:
-        if name in ("_shared", "_mine", "_inside"):
-            raise RuntimeError("the loader is not open: a subclass calls ThreadedDataLoader.__init__")
-        raise AttributeError(f"{type(self).__name__} has no {name}")
+    if not TYPE_CHECKING:  # A type checker would take each name that is missing.
+
+        def __getattr__(self, name):
+            if name in ("_shared", "_mine", "_kinds"):
+                raise RuntimeError("the loader is not open: a subclass calls ThreadedDataLoader.__init__")
+            raise AttributeError(f"{type(self).__name__} has no {name}")
 
     def __repr__(self) -> str:
         return f"<{type(self).__name__} {self.name!r}>" if self.name is not None else super().__repr__()
@@ -344,9 +366,10 @@ class ThreadedDataLoader(Generic[K, V]):
             return [_given(outcome) for outcome in outcomes]
         return [outcome.error if isinstance(outcome, _Error) else outcome for outcome in outcomes]
 
-    def prime(self: Loader, key: K, value: V | BaseException, /) -> Loader:
-        """Holds a value for the key, unless one is held. It may be an exception."""
-        self._shared.prime(self._mine.caller, self._number(key), _outcome(value))
+    def prime(self: Loader, key: K, value: V | BaseException | Future[V], /) -> Loader:
+        """Holds a value for the key, unless one is held. It may be an exception, or a future of either that has ended."""
+        outcome = _outcome_of(value) if isinstance(value, Future) else _outcome(value)
+        self._shared.prime(self._mine.caller, self._number(key), outcome)
         return self
 
     def clear(self: Loader, key: K, /) -> Loader:
@@ -375,16 +398,26 @@ class ThreadedDataLoader(Generic[K, V]):
                 self._fail(job, RuntimeError("whoever sent the batch was interrupted"))
 
     @contextmanager
-    def calling(self) -> Iterator[None]:
-        """While a thread is inside, it is one of those that load: once all of them wait, what is collected is sent."""
-        ident = threading.get_ident()
+    def calling(self, *, of: int = 1) -> Iterator[None]:
+        """While a thread is inside, it is one of those that load: once all of them wait, what is collected is sent.
+
+        :param of: of how many threads it is one, which are inside at once. Until the last of them has come in, what is collected isn't
+            sent so. Those that have left by then count too. Whoever comes in later is the first of as many anew.
+        """
+        _check_limit("of", of)
+        ident, place = threading.get_ident(), -1
+        kind = self._kinds.setdefault(of, _Kind(count(), set()))
         is_outer = ident not in self._inside
         try:
             if is_outer:
-                self._inside[ident] = None
+                place = next(kind.places)
+                self._inside[ident] = of, place - place % of + of
+                kind.come.add(place)
                 _here.loaders.add(self)
             yield
         finally:
+            if place >= 0:
+                kind.come.add(place)
             if is_outer:
                 self._inside.pop(ident, None)
                 _here.loaders.discard(self)
@@ -481,9 +514,13 @@ class ThreadedDataLoader(Generic[K, V]):
                 _waits[ident] = outer
 
     def _all_wait(self) -> bool:
-        """Whether threads are inside, and each waits for a cell that is empty."""
-        waits = [_waits.get(ident) for ident in list(self._inside)]
-        return bool(waits) and all(wait is not None and wait.is_blocked() for wait in waits)
+        """Whether threads are inside, the oldest group of each kind has come in, and each thread waits for a cell that is empty."""
+        come = {of: len(kind.come) for of, kind in self._kinds.copy().items()}
+        inside = self._inside.copy()  # After the counts: who is counted is inside already.
+        waits = [_waits.get(ident) for ident in inside]
+        whole = {of for of, needed in inside.values() if come.get(of, 0) >= needed}
+        is_whole = all(of in whole for of, _ in inside.values())
+        return bool(waits) and is_whole and all(wait is not None and wait.is_blocked() for wait in waits)
 
     def _wake_if_all_wait(self) -> None:
         if self._waiting and self._all_wait() and self._shared.collects():

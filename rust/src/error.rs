@@ -1,18 +1,35 @@
 //! Why there is no value, and why a call is refused.
 
+use crate::loader::Loader;
 use std::error::Error;
 use std::fmt;
 use std::sync::Arc;
 
-/// Why a cell has no value.
-#[derive(Clone, Debug, PartialEq, Eq)]
+/// Why a key has no value. `E` is the type of your own errors, which you give to the loader. You may clone it for any `E`.
+#[derive(Debug, PartialEq, Eq)]
 pub enum Failure<E> {
     /// The key has this error. The loader keeps it like a value.
-    Key(E),
+    Key(Arc<E>),
     /// The whole batch failed. The loader has forgotten its keys, so that a later load fetches them again.
     Batch(Arc<E>),
-    /// The batch failed since its [`Job`](crate::Job) was dropped.
+    /// The batch failed since its [`Job`](crate::Job) was dropped. The loader has forgotten its keys here too.
     Dropped,
+}
+
+impl<E> Failure<E> {
+    pub(crate) fn of_key(error: E) -> Failure<E> {
+        Failure::Key(Arc::new(error))
+    }
+}
+
+impl<E> Clone for Failure<E> {
+    fn clone(&self) -> Failure<E> {
+        match self {
+            Failure::Key(error) => Failure::Key(Arc::clone(error)),
+            Failure::Batch(error) => Failure::Batch(Arc::clone(error)),
+            Failure::Dropped => Failure::Dropped,
+        }
+    }
 }
 
 impl<E: fmt::Display> fmt::Display for Failure<E> {
@@ -25,17 +42,18 @@ impl<E: fmt::Display> fmt::Display for Failure<E> {
     }
 }
 
+/// Its text has that of your error, so `source` gives what is below your error, and not your error again.
 impl<E: Error + 'static> Error for Failure<E> {
     fn source(&self) -> Option<&(dyn Error + 'static)> {
         match self {
-            Failure::Key(error) => Some(error),
-            Failure::Batch(error) => Some(&**error),
+            Failure::Key(error) | Failure::Batch(error) => error.source(),
             Failure::Dropped => None,
         }
     }
 }
 
-/// Why a call is refused. It leaves the loader and its history as they were.
+/// Why a call is refused. A refused call leaves the loader and its history as they were, but for [`Job::settle`](crate::Job::settle) and
+/// [`Job::fail`](crate::Job::fail): if one is refused, its job is dropped, so that the batch fails or, if it can't, the loader stops.
 #[derive(Clone, Copy, Debug, PartialEq, Eq, Hash)]
 #[non_exhaustive]
 pub enum Refusal {
@@ -59,9 +77,11 @@ pub enum Refusal {
     Stopped,
     /// A batch has not ended.
     Unsettled,
-    /// The caller or the ticket is of another loader, or the ticket of another caller.
+    /// The caller or the ticket is of another loader.
     OtherLoader,
-    /// The library answered this code, which never comes in a run.
+    /// The ticket is of another caller of this loader.
+    OtherCaller,
+    /// The library answered this number, which never comes in a run. Any call may say so: stop the loader then, and drop it.
     Bug(u32),
 }
 
@@ -77,11 +97,46 @@ impl fmt::Display for Refusal {
             Refusal::DuplicateTable => "a table has two limits",
             Refusal::BadLengths => "a batch is settled with an outcome for each key",
             Refusal::Stopped => "the loader is stopped",
-            Refusal::Unsettled => "a batch has not ended: dispatch, and settle or fail each job",
-            Refusal::OtherLoader => "the caller or the ticket is of another loader, or the ticket of another caller",
+            Refusal::Unsettled => {
+                "a batch has not ended: dispatch, and settle or fail each job; if the loader is stopped, drop it, since it has no history"
+            }
+            Refusal::OtherLoader => "the caller or the ticket is of another loader",
+            Refusal::OtherCaller => "the ticket is of another caller: wait with the caller that loaded it",
             Refusal::Bug(code) => return write!(f, "the library answered {code}, which is a bug of it"),
         })
     }
 }
 
 impl Error for Refusal {}
+
+/// Why [`Loader::close`] is refused, with the loader as it was.
+pub struct CloseError<V, E> {
+    pub(crate) refusal: Refusal,
+    pub(crate) loader: Box<Loader<V, E>>,
+}
+
+impl<V, E> CloseError<V, E> {
+    /// Why the close is refused.
+    pub fn refusal(&self) -> Refusal {
+        self.refusal
+    }
+
+    /// The loader, so that you can end what is open and close it then.
+    pub fn into_inner(self) -> Loader<V, E> {
+        *self.loader
+    }
+}
+
+impl<V, E> fmt::Debug for CloseError<V, E> {
+    fn fmt(&self, f: &mut fmt::Formatter<'_>) -> fmt::Result {
+        f.debug_struct("CloseError").field("refusal", &self.refusal).field("loader", &self.loader).finish()
+    }
+}
+
+impl<V, E> fmt::Display for CloseError<V, E> {
+    fn fmt(&self, f: &mut fmt::Formatter<'_>) -> fmt::Result {
+        self.refusal.fmt(f)
+    }
+}
+
+impl<V, E> Error for CloseError<V, E> {}

@@ -83,13 +83,13 @@ pub struct Event {
 }
 
 impl Event {
-    /// Whether a cell begins with it.
-    pub fn begins_cell(&self) -> bool {
+    /// How many keys it puts into batches, to be fetched: a load puts one if the loader doesn't hold the key, and a load of several keys
+    /// may put several. A prime puts none.
+    pub fn fresh_loads(&self) -> usize {
         match &self.call {
-            Call::Load(_, reply) => matches!(reply, Reply::Fresh { .. }),
-            Call::LoadMany(loads) => loads.iter().any(|(_, reply)| matches!(reply, Reply::Fresh { .. })),
-            Call::Prime(_, cell) => cell.is_some(),
-            _ => false,
+            Call::Load(_, reply) => reply.is_fresh().into(),
+            Call::LoadMany(loads) => loads.iter().filter(|(_, reply)| reply.is_fresh()).count(),
+            _ => 0,
         }
     }
 }
@@ -158,6 +158,10 @@ pub enum Reply {
 }
 
 impl Reply {
+    fn is_fresh(self) -> bool {
+        matches!(self, Reply::Fresh { .. })
+    }
+
     fn numbers(self) -> [u32; 3] {
         match self {
             Reply::Hit(cell) => [0, cell, 0],

@@ -2,11 +2,16 @@
 
 use crate::error::{Failure, Refusal};
 use crate::loader::{Key, Loader};
+use crate::serial::Members;
+use std::fmt;
 use std::mem;
 use std::sync::Arc;
+use std::vec;
 
-/// A batch that was sent, which whoever has it fetches, and then settles or fails. If it is dropped before, the batch fails, so that
-/// nobody waits for it for ever.
+/// A batch that was sent. Whoever has the job fetches its keys by one statement, and then settles or fails it, on any thread.
+///
+/// If you drop a job, its batch fails, so that nobody waits for it for ever. If the history is full or the loader is stopped, no batch
+/// can fail any more: then the drop stops the loader, each wait for the batch gives `None`, and [`Loader::close`] is refused from then on.
 #[must_use = "a job that is dropped fails its batch"]
 pub struct Job<'l, V, E> {
     loader: &'l Loader<V, E>,
@@ -17,7 +22,7 @@ pub struct Job<'l, V, E> {
 }
 
 impl<'l, V, E> Job<'l, V, E> {
-    pub(crate) fn new(loader: &'l Loader<V, E>, caller: u32, batch: u32, members: Vec<(Key, u32)>) -> Job<'l, V, E> {
+    pub(crate) fn new(loader: &'l Loader<V, E>, caller: u32, batch: u32, members: Members) -> Job<'l, V, E> {
         let (keys, cells) = members.into_iter().unzip();
         Job { loader, caller, batch, keys, cells }
     }
@@ -32,19 +37,35 @@ impl<'l, V, E> Job<'l, V, E> {
         &self.keys
     }
 
-    /// Ends the batch with a value, or an error of the key alone, for each key in its place. If that is refused, the batch fails as
-    /// dropped.
+    /// Ends the batch: outcome n is the value of key n, or an error of that key alone.
+    ///
+    /// # Errors
+    ///
+    /// A refused call drops the outcomes and the job.
+    ///
+    /// - [`Refusal::BadLengths`]: there are more or fewer outcomes than keys. The batch fails, and the history has a fail.
+    /// - [`Refusal::LogFull`]: the history has as many calls as its limit says. This stops the loader.
+    /// - [`Refusal::Stopped`]: the loader is stopped.
+    /// - [`Refusal::OutOfMemory`]: there is no memory. The batch fails, or if there is no memory for that, the loader stops.
     pub fn settle(mut self, outcomes: Vec<Result<V, E>>) -> Result<(), Refusal> {
         if outcomes.len() != self.keys.len() {
             return Err(Refusal::BadLengths);
         }
-        let outcomes = outcomes.into_iter().map(|outcome| outcome.map_err(Failure::Key));
+        let outcomes = outcomes.into_iter().map(|outcome| outcome.map_err(Failure::of_key));
         self.loader.end(self.caller, self.batch, true, self.cells.iter().copied().zip(outcomes))?;
         self.forget();
         Ok(())
     }
 
-    /// Fails the batch with an error that all its keys have. If that is refused, the batch fails as dropped.
+    /// Fails the batch with an error that all its keys have. The loader forgets them, so that a later load fetches them again.
+    ///
+    /// # Errors
+    ///
+    /// A refused call drops the error and the job.
+    ///
+    /// - [`Refusal::LogFull`]: the history has as many calls as its limit says. This stops the loader.
+    /// - [`Refusal::Stopped`]: the loader is stopped.
+    /// - [`Refusal::OutOfMemory`]: there is no memory. The batch fails as dropped, or if there is no memory for that, the loader stops.
     pub fn fail(mut self, error: E) -> Result<(), Refusal> {
         let error = Arc::new(error);
         let outcomes = self.cells.iter().map(|&cell| (cell, Err(Failure::Batch(Arc::clone(&error)))));
@@ -59,6 +80,12 @@ impl<'l, V, E> Job<'l, V, E> {
     }
 }
 
+impl<V, E> fmt::Debug for Job<'_, V, E> {
+    fn fmt(&self, f: &mut fmt::Formatter<'_>) -> fmt::Result {
+        f.debug_struct("Job").field("batch", &self.batch).field("keys", &self.keys).finish_non_exhaustive()
+    }
+}
+
 impl<V, E> Drop for Job<'_, V, E> {
     /// Fails the batch, or if that is refused stops the loader, by which waits end too.
     fn drop(&mut self) {
@@ -69,5 +96,29 @@ impl<V, E> Drop for Job<'_, V, E> {
                 self.loader.stop();
             }
         }
+    }
+}
+
+/// The jobs of the batches that [`Loader::dispatch`] sent, in order. You iterate over them, and fetch each.
+#[must_use = "jobs that are dropped fail their batches"]
+pub struct Jobs<'l, V, E>(pub(crate) vec::IntoIter<Job<'l, V, E>>);
+
+impl<'l, V, E> Iterator for Jobs<'l, V, E> {
+    type Item = Job<'l, V, E>;
+
+    fn next(&mut self) -> Option<Job<'l, V, E>> {
+        self.0.next()
+    }
+
+    fn size_hint(&self) -> (usize, Option<usize>) {
+        self.0.size_hint()
+    }
+}
+
+impl<V, E> ExactSizeIterator for Jobs<'_, V, E> {}
+
+impl<V, E> fmt::Debug for Jobs<'_, V, E> {
+    fn fmt(&self, f: &mut fmt::Formatter<'_>) -> fmt::Result {
+        f.debug_tuple("Jobs").field(&self.0.as_slice()).finish()
     }
 }

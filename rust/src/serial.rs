@@ -5,16 +5,18 @@ use crate::error::Refusal;
 use crate::history::{Call, Entry, Event, Reply};
 use crate::loader::Key;
 use std::ffi::c_void;
-use std::iter;
 use std::ptr;
-use std::sync::atomic::AtomicPtr;
 
-/// The handle, as the library has it. It may go from one thread to another.
+/// The handle, as the library has it.
 #[repr(C)]
 pub(crate) struct Serial {
     is_open: bool,
-    held: AtomicPtr<c_void>,
+    held: *mut c_void,
 }
+
+// SAFETY: what the handle keeps may cross threads, as the library's own handle says (`Held: Send` in crates/dl_loader_c), and no other
+// handle has it. It isn't `Sync`: the lock of a loader sees to it that one call is made at a time.
+unsafe impl Send for Serial {}
 
 #[repr(C)]
 pub(crate) struct Opening {
@@ -43,6 +45,9 @@ struct Loaded {
     cell: u32,
     batch: u32,
 }
+
+/// The members of a batch: their keys, and their cells.
+pub(crate) type Members = Vec<(Key, u32)>;
 
 /// The answer to a load.
 #[repr(C)]
@@ -146,12 +151,14 @@ extern "C" {
 }
 
 const DONE: u32 = 0;
+const HIT: u32 = 0;
 const FRESH: u32 = 1;
+const NO_MEMBER: u32 = 11;
+const NO_EVENT: u32 = 23;
 
-/// A code of a call, as a refusal if it is one.
-fn checked(code: u32) -> Result<u32, Refusal> {
-    Err(match code {
-        DONE | FRESH => return Ok(code),
+/// A code that is neither `DONE` nor `FRESH`, or that the call never answers, as a refusal.
+fn refusal_of(code: u32) -> Refusal {
+    match code {
         2 => Refusal::OutOfMemory,
         3 => Refusal::CellsFull,
         7 | 14 | 15 => Refusal::BadKey,
@@ -162,7 +169,33 @@ fn checked(code: u32) -> Result<u32, Refusal> {
         21 => Refusal::LogFull,
         22 => Refusal::Unsettled,
         _ => Refusal::Bug(code),
-    })
+    }
+}
+
+/// Whether a call is made.
+fn done(code: u32) -> Result<(), Refusal> {
+    match code {
+        DONE => Ok(()),
+        _ => Err(refusal_of(code)),
+    }
+}
+
+/// Whether a cell begins with a call that is made.
+fn is_fresh(code: u32) -> Result<bool, Refusal> {
+    match code {
+        HIT => Ok(false),
+        FRESH => Ok(true),
+        _ => Err(refusal_of(code)),
+    }
+}
+
+/// What a list has at a place whose code is this. The list ends by the code `end`.
+fn listed<T>(code: u32, end: u32, item: impl FnOnce() -> Result<T, Refusal>) -> Option<Result<T, Refusal>> {
+    match code {
+        DONE => Some(item()),
+        _ if code == end => None,
+        _ => Some(Err(Refusal::Bug(code))),
+    }
 }
 
 impl KeyTexts {
@@ -178,12 +211,13 @@ impl KeyTexts {
 
 impl Serial {
     fn closed() -> Serial {
-        Serial { is_open: false, held: AtomicPtr::new(ptr::null_mut()) }
+        Serial { is_open: false, held: ptr::null_mut() }
     }
 
     pub(crate) fn open(opening: &Opening) -> Result<Serial, Refusal> {
         let mut serial = Serial::closed();
-        checked(unsafe { dl_serial_open(&mut serial, opening) })?;
+        // SAFETY: the handle is closed and new.
+        done(unsafe { dl_serial_open(&mut serial, opening) })?;
         Ok(serial)
     }
 
@@ -194,15 +228,17 @@ impl Serial {
             .map(|&(name, limit)| Ok(TableLimit { name_len: length(name)?, limit }))
             .collect::<Result<_, Refusal>>()?;
         let mut serial = Serial::closed();
-        checked(unsafe {
+        // SAFETY: the handle is closed and new, and both slices live for the call.
+        done(unsafe {
             dl_serial_open_by_table(&mut serial, opening, names.as_ptr(), names.len(), limits.as_ptr(), limits.len())
         })?;
         Ok(serial)
     }
 
     pub(crate) fn load(&mut self, caller: u32, table: &str, id: &str) -> Result<Given, Refusal> {
+        // SAFETY: nobody else has the handle now, and both texts live for the call.
         let given = unsafe { dl_serial_load(self, caller, table.as_ptr(), table.len(), id.as_ptr(), id.len()) };
-        checked(given.code)?;
+        is_fresh(given.code)?;
         Ok(given)
     }
 
@@ -213,7 +249,8 @@ impl Serial {
             .map(|(table, id)| Ok(KeyLengths { table: length(table)?, id: length(id)? }))
             .collect::<Result<_, Refusal>>()?;
         let mut given = vec![Given::default(); keys.len()];
-        checked(unsafe {
+        // SAFETY: nobody else has the handle now, and the three slices live for the call; it writes to `given`, which is ours.
+        done(unsafe {
             dl_serial_load_many(
                 self,
                 caller,
@@ -230,107 +267,114 @@ impl Serial {
 
     /// The cell that was begun, if the key wasn't held.
     pub(crate) fn prime(&mut self, caller: u32, table: &str, id: &str) -> Result<Option<u32>, Refusal> {
+        // SAFETY: nobody else has the handle now, and both texts live for the call.
         let loaded = unsafe { dl_serial_prime(self, caller, table.as_ptr(), table.len(), id.as_ptr(), id.len()) };
-        Ok((checked(loaded.code)? == FRESH).then_some(loaded.cell))
+        Ok(is_fresh(loaded.code)?.then_some(loaded.cell))
     }
 
     pub(crate) fn clear(&mut self, caller: u32, table: &str, id: &str) -> Result<(), Refusal> {
-        checked(unsafe { dl_serial_clear(self, caller, table.as_ptr(), table.len(), id.as_ptr(), id.len()) })?;
-        Ok(())
+        // SAFETY: nobody else has the handle now, and both texts live for the call.
+        done(unsafe { dl_serial_clear(self, caller, table.as_ptr(), table.len(), id.as_ptr(), id.len()) })
     }
 
     pub(crate) fn clear_all(&mut self, caller: u32) -> Result<(), Refusal> {
-        checked(unsafe { dl_serial_clear_all(self, caller) })?;
-        Ok(())
+        // SAFETY: nobody else has the handle now.
+        done(unsafe { dl_serial_clear_all(self, caller) })
     }
 
-    /// The batches that were sent: the first, and how many.
-    pub(crate) fn dispatch(&mut self, caller: u32) -> Result<(u32, usize), Refusal> {
+    /// The batches that were sent, each with its members.
+    pub(crate) fn dispatch(&mut self, caller: u32) -> Result<Vec<(u32, Members)>, Refusal> {
+        // SAFETY: nobody else has the handle now.
         let sent = unsafe { dl_serial_dispatch(self, caller) };
-        checked(sent.code)?;
-        Ok((sent.first, sent.count))
+        done(sent.code)?;
+        (sent.first..).take(sent.count).map(|batch| Ok((batch, self.members(batch)?))).collect()
     }
 
-    pub(crate) fn settle(&mut self, caller: u32, batch: u32) -> Result<(), Refusal> {
-        checked(unsafe { dl_serial_settle(self, caller, batch) })?;
-        Ok(())
-    }
-
-    pub(crate) fn fail(&mut self, caller: u32, batch: u32) -> Result<(), Refusal> {
-        checked(unsafe { dl_serial_fail(self, caller, batch) })?;
-        Ok(())
-    }
-
-    /// The members of a batch: their keys, and their cells.
-    pub(crate) fn members(&mut self, batch: u32) -> Vec<(Key, u32)> {
+    fn members(&mut self, batch: u32) -> Result<Members, Refusal> {
         let mut texts = KeyTexts::new();
         (0..)
             .map_while(|index| {
+                // SAFETY: nobody else has the handle now, and `texts` is ours.
                 let loaded = unsafe { dl_serial_member(self, batch, index, &mut texts) };
-                (loaded.code == DONE).then(|| (texts.key(), loaded.cell))
+                listed(loaded.code, NO_MEMBER, || Ok((texts.key(), loaded.cell)))
             })
             .collect()
     }
 
+    pub(crate) fn settle(&mut self, caller: u32, batch: u32) -> Result<(), Refusal> {
+        // SAFETY: nobody else has the handle now.
+        done(unsafe { dl_serial_settle(self, caller, batch) })
+    }
+
+    pub(crate) fn fail(&mut self, caller: u32, batch: u32) -> Result<(), Refusal> {
+        // SAFETY: nobody else has the handle now.
+        done(unsafe { dl_serial_fail(self, caller, batch) })
+    }
+
     pub(crate) fn saw(&mut self, caller: u32, ticket: usize) -> Result<(), Refusal> {
-        checked(unsafe { dl_serial_saw(self, caller, ticket) })?;
-        Ok(())
+        // SAFETY: nobody else has the handle now.
+        done(unsafe { dl_serial_saw(self, caller, ticket) })
     }
 
     pub(crate) fn stop(&mut self) {
+        // SAFETY: nobody else has the handle now.
         unsafe { dl_serial_stop(self) };
     }
 
-    pub(crate) fn close(&mut self) -> Result<(), Refusal> {
-        checked(unsafe { dl_serial_close(self) })?;
-        Ok(())
+    /// Closes the loader of so many callers: the events, and the entries of each caller.
+    pub(crate) fn close(&mut self, callers: u32) -> Result<(Vec<Event>, Vec<Vec<Entry>>), Refusal> {
+        // SAFETY: nobody else has the handle now.
+        done(unsafe { dl_serial_close(self) })?;
+        let entries = (0..callers).map(|caller| self.entries(caller)).collect::<Result<_, _>>()?;
+        Ok((self.events()?, entries))
     }
 
     /// The events of a closed loader.
-    pub(crate) fn events(&mut self) -> Vec<Event> {
-        let mut events = Vec::new();
-        for at in 0.. {
-            let raw = unsafe { dl_serial_event(self, at) };
-            if raw.code != DONE {
-                break;
-            }
-            let replies = self.replies(at, &raw);
-            events.push(Event { caller: raw.caller, call: call_of(&raw, replies) });
-        }
-        events
+    fn events(&mut self) -> Result<Vec<Event>, Refusal> {
+        (0..)
+            .map_while(|at| {
+                // SAFETY: nobody else has the handle now.
+                let raw = unsafe { dl_serial_event(self, at) };
+                listed(raw.code, NO_EVENT, || {
+                    let call = call_of(&raw, self.replies(at, &raw)?)?;
+                    Ok(Event { caller: raw.caller, call })
+                })
+            })
+            .collect()
     }
 
     /// The keys of an event, each with what was answered to it.
-    fn replies(&mut self, at: u32, raw: &RawEvent) -> Vec<(Key, Reply)> {
+    fn replies(&mut self, at: u32, raw: &RawEvent) -> Result<Vec<(Key, Reply)>, Refusal> {
         let mut texts = KeyTexts::new();
-        let mut reply = |index| {
-            let loaded = unsafe { dl_serial_event_key(self, at, index, &mut texts) };
-            let reply = match loaded.code {
-                FRESH => Reply::Fresh { cell: loaded.cell, batch: loaded.batch },
-                _ => Reply::Hit(loaded.cell),
-            };
-            (texts.key(), reply)
-        };
-        (0..raw.keys).map(&mut reply).collect()
+        (0..raw.keys)
+            .map(|index| {
+                // SAFETY: nobody else has the handle now, and `texts` is ours.
+                let Loaded { code, cell, batch } = unsafe { dl_serial_event_key(self, at, index, &mut texts) };
+                let reply = if is_fresh(code)? { Reply::Fresh { cell, batch } } else { Reply::Hit(cell) };
+                Ok((texts.key(), reply))
+            })
+            .collect()
     }
 
     /// The entries of a caller of a closed loader.
-    pub(crate) fn entries(&mut self, caller: u32) -> Vec<Entry> {
-        let mut index = 0;
-        iter::from_fn(|| {
-            let raw = unsafe { dl_serial_entry(self, caller, index) };
-            index += 1;
-            (raw.code == DONE).then_some(match raw.kind {
-                0 => Entry::Call { at: raw.at },
-                _ => Entry::Saw { cell: raw.cell, at: raw.at },
+    fn entries(&mut self, caller: u32) -> Result<Vec<Entry>, Refusal> {
+        (0..)
+            .map_while(|index| {
+                // SAFETY: nobody else has the handle now.
+                let raw = unsafe { dl_serial_entry(self, caller, index) };
+                listed(raw.code, NO_EVENT, || match raw.kind {
+                    0 => Ok(Entry::Call { at: raw.at }),
+                    1 => Ok(Entry::Saw { cell: raw.cell, at: raw.at }),
+                    kind => Err(Refusal::Bug(kind)),
+                })
             })
-        })
-        .collect()
+            .collect()
     }
 }
 
 impl Drop for Serial {
     fn drop(&mut self) {
+        // SAFETY: nobody else has the handle, and nobody has it from now on.
         unsafe { dl_serial_free(self) };
     }
 }
@@ -341,9 +385,9 @@ fn length(text: &str) -> Result<u32, Refusal> {
 }
 
 /// A call of the history, whose keys have these replies.
-fn call_of(raw: &RawEvent, mut replies: Vec<(Key, Reply)>) -> Call {
+fn call_of(raw: &RawEvent, mut replies: Vec<(Key, Reply)>) -> Result<Call, Refusal> {
     let one = if raw.keys == 1 { replies.pop() } else { None };
-    match (raw.call, one) {
+    Ok(match (raw.call, one) {
         (0, Some((key, reply))) => Call::Load(key, reply),
         (1, one) => Call::LoadMany(replies.into_iter().chain(one).collect()),
         (2, Some((key, Reply::Fresh { cell, .. }))) => Call::Prime(key, Some(cell)),
@@ -353,6 +397,6 @@ fn call_of(raw: &RawEvent, mut replies: Vec<(Key, Reply)>) -> Call {
         (5, _) => Call::Dispatch(raw.batch..raw.batch + raw.batches as u32),
         (6, _) => Call::Settle(raw.batch),
         (7, _) => Call::Fail(raw.batch),
-        (call, _) => unreachable!("the library has no call {call} of {} keys", raw.keys),
-    }
+        (call, _) => return Err(Refusal::Bug(call)),
+    })
 }

@@ -1,8 +1,12 @@
 //! Each call of a loader, by one thread.
 
+use std::error::Error;
+use std::fmt;
 use std::sync::Arc;
 use std::time::Duration;
-use thrushscreen::{Call, Caller, Entry, Failure, Key, Limits, Loader, Outcome, Refusal, Reply};
+use thrushscreen::{
+    Call, Caller, CloseError, Entry, Event, Failure, Job, Key, Limits, Loader, Outcome, Refusal, Reply,
+};
 
 type Texts = Loader<String, String>;
 
@@ -19,6 +23,16 @@ fn key(table: &str, id: &str) -> Key {
 
 fn value(text: &str) -> Outcome<String, String> {
     Ok(text.into())
+}
+
+/// An error of the key alone.
+fn gone() -> Outcome<String, String> {
+    Err(Failure::Key(Arc::new("gone".into())))
+}
+
+/// The jobs of what is collected.
+fn sent<'l>(loader: &'l Texts, caller: &mut Caller) -> Vec<Job<'l, String, String>> {
+    loader.dispatch(caller).unwrap().collect()
 }
 
 /// Sends what is collected, and settles each batch with the ids.
@@ -56,7 +70,10 @@ fn several_keys_are_loaded_as_one() {
     let keys: Vec<_> = full.iter().map(|id| ("user", id.as_str())).collect();
     assert_eq!(loader.load_many(&mut caller, &keys).unwrap_err(), Refusal::CellsFull);
     assert_eq!(loader.load(&mut caller, "user", "0").unwrap().cell(), 2);
+    assert_eq!(loader.prime(&mut caller, "user", "p", Ok("pat".into())), Ok(None));
     assert_eq!(fetch(&loader, &mut caller), [["a", "7"].as_slice(), ["0"].as_slice()]);
+    let history = loader.close().unwrap();
+    assert_eq!(history.events().iter().map(Event::fresh_loads).filter(|&keys| keys > 0).collect::<Vec<_>>(), [2, 1]);
 }
 
 #[test]
@@ -67,7 +84,7 @@ fn a_primed_key_is_held_and_a_cleared_one_is_not() {
     assert_eq!(loader.prime(&mut caller, "user", "b", Err("gone".into())), Ok(None));
     let (a, b) = (loader.load(&mut caller, "user", "a").unwrap(), loader.load(&mut caller, "user", "b").unwrap());
     assert_eq!(loader.look(&a), Some(&value("ada")));
-    assert_eq!(loader.look(&b), Some(&Err(Failure::Key("gone".into()))));
+    assert_eq!(loader.look(&b), Some(&gone()));
     loader.clear(&mut caller, "user", "a").unwrap();
     assert_eq!(loader.load(&mut caller, "user", "a").unwrap().cell(), 2);
     loader.clear_all(&mut caller).unwrap();
@@ -79,11 +96,11 @@ fn a_primed_key_is_held_and_a_cleared_one_is_not() {
 fn an_error_of_a_key_is_kept_and_one_of_a_batch_is_not() {
     let (loader, mut caller) = opened();
     let [a, b, c] = ["a", "b", "c"].map(|id| loader.load(&mut caller, "user", id).unwrap());
-    let mut jobs = loader.dispatch(&mut caller).unwrap();
+    let mut jobs = sent(&loader, &mut caller);
     jobs.remove(0).settle(vec![Ok("ada".into()), Err("gone".into())]).unwrap();
     jobs.remove(0).fail("down".into()).unwrap();
     assert_eq!(loader.look(&a), Some(&value("ada")));
-    assert_eq!(loader.look(&b), Some(&Err(Failure::Key("gone".into()))));
+    assert_eq!(loader.look(&b), Some(&gone()));
     assert_eq!(loader.wait(&mut caller, &c), Ok(Some(&Err(Failure::Batch(Arc::new("down".into()))))));
     assert_eq!(loader.load(&mut caller, "user", "b").unwrap().cell(), 1);
     assert_eq!(loader.load(&mut caller, "user", "c").unwrap().cell(), 3);
@@ -93,13 +110,14 @@ fn an_error_of_a_key_is_kept_and_one_of_a_batch_is_not() {
 fn a_job_that_is_dropped_fails() {
     let (loader, mut caller) = opened();
     let [a, b, c] = ["a", "b", "c"].map(|id| loader.load(&mut caller, "user", id).unwrap());
-    let mut jobs = loader.dispatch(&mut caller).unwrap();
+    let mut jobs = sent(&loader, &mut caller);
     assert_eq!((jobs[1].batch(), jobs[1].keys()), (1, [key("user", "c")].as_slice()));
     assert_eq!(jobs.remove(0).settle(vec![Ok("ada".into())]), Err(Refusal::BadLengths));
     assert_eq!([&a, &b].map(|ticket| loader.look(ticket)), [Some(&Err(Failure::Dropped)); 2]);
     drop(jobs);
     assert_eq!(loader.wait(&mut caller, &c), Ok(Some(&Err(Failure::Dropped))));
-    loader.close().map_err(|(refusal, _)| refusal).unwrap();
+    let events = loader.close().unwrap().events().to_vec();
+    assert_eq!([&events[4].call, &events[5].call], [&Call::Fail(0), &Call::Fail(1)]);
 }
 
 #[test]
@@ -107,11 +125,25 @@ fn a_job_that_can_not_be_failed_stops_the_loader() {
     let (loader, mut callers) = Texts::open(Limits { max_calls: 2, ..LIMITS }, 1).unwrap();
     let caller = &mut callers[0];
     let ticket = loader.load(caller, "user", "a").unwrap();
-    let mut jobs = loader.dispatch(caller).unwrap();
+    let mut jobs = sent(&loader, caller);
     assert_eq!(loader.clear_all(caller), Err(Refusal::LogFull));
     assert_eq!(jobs.remove(0).settle(vec![Ok("a".into())]), Err(Refusal::LogFull));
     assert_eq!(loader.wait(caller, &ticket), Ok(None));
     assert_eq!(loader.clear_all(caller), Err(Refusal::Stopped));
+    drop(jobs);
+    assert_eq!(loader.close().unwrap_err().refusal(), Refusal::Unsettled);
+}
+
+#[test]
+fn what_a_caller_left_is_sent_by_another() {
+    let (loader, mut callers) = Texts::open(LIMITS, 2).unwrap();
+    loader.load(&mut callers.remove(0), "user", "a").unwrap();
+    let refused = loader.close().unwrap_err();
+    assert_eq!(refused.to_string(), Refusal::Unsettled.to_string());
+    let boxed: Box<dyn Error + Send + Sync> = Box::new(refused);
+    let loader = boxed.downcast::<CloseError<String, String>>().unwrap().into_inner();
+    drop(loader.dispatch(&mut callers[0]).unwrap());
+    loader.close().unwrap();
 }
 
 #[test]
@@ -124,8 +156,8 @@ fn a_wait_ends_by_its_time_or_by_a_stop() {
     assert_eq!(loader.wait(&mut caller, &ticket), Ok(None));
     assert_eq!(loader.wait_timeout(&mut caller, &ticket, Duration::MAX), Ok(None));
     assert_eq!(loader.load(&mut caller, "user", "a").unwrap_err(), Refusal::Stopped);
-    let Err((refusal, loader)) = loader.close() else { panic!("batch 0 has no end") };
-    assert_eq!((refusal, loader.look(&ticket)), (Refusal::Unsettled, None));
+    let refused = loader.close().unwrap_err();
+    assert_eq!((refused.refusal(), refused.into_inner().look(&ticket)), (Refusal::Unsettled, None));
 }
 
 #[test]
@@ -163,13 +195,16 @@ fn a_batch_may_be_of_one_table() {
 
 #[test]
 fn what_is_of_another_loader_is_refused() {
-    let ((loader, mut caller), (other, mut stranger)) = (opened(), opened());
+    let ((loader, mut callers), (other, mut stranger)) = (Texts::open(LIMITS, 2).unwrap(), opened());
+    let (mut second, mut caller) = (callers.remove(1), callers.remove(0));
     let ticket = loader.load(&mut caller, "user", "a").unwrap();
     assert_eq!(loader.load(&mut stranger, "user", "a").unwrap_err(), Refusal::OtherLoader);
     assert_eq!(other.wait(&mut stranger, &ticket), Err(Refusal::OtherLoader));
     assert_eq!(loader.wait(&mut stranger, &ticket), Err(Refusal::OtherLoader));
     assert_eq!(loader.prime(&mut stranger, "user", "b", Ok("b".into())), Err(Refusal::OtherLoader));
     assert_eq!(other.look(&ticket), None);
+    assert_eq!(loader.wait(&mut caller, &other.load(&mut stranger, "user", "a").unwrap()), Err(Refusal::OtherLoader));
+    assert_eq!(loader.wait(&mut second, &ticket), Err(Refusal::OtherCaller));
 }
 
 #[test]
@@ -183,12 +218,12 @@ fn the_close_gives_the_history() {
     loader.prime(first, "user", "c", Ok("eve".into())).unwrap();
     loader.clear(second, "user", "a").unwrap();
     loader.clear_all(first).unwrap();
-    let mut jobs = loader.dispatch(second).unwrap();
+    let mut jobs = sent(&loader, second);
     jobs.remove(0).settle(vec![Ok("ada".into())]).unwrap();
     assert_eq!(loader.wait(second, &tickets[1]), Ok(Some(&value("ada"))));
     jobs.remove(0).fail("down".into()).unwrap();
     drop(jobs);
-    let history = loader.close().map_err(|(refusal, _)| refusal).unwrap();
+    let history = loader.close().unwrap();
     let [a, b, c] = ["a", "b", "c"].map(|id| key("user", id));
     let calls = [
         (0, Call::Load(a.clone(), Reply::Fresh { cell: 0, batch: 0 })),
@@ -228,13 +263,51 @@ fn a_history_by_table_is_written_with_the_limits_of_tables() {
         r#""calls":[{"clear":["\\","\u001fé"]}]}"#,
         "\n[[0]]\n"
     );
-    assert_eq!(loader.close().map_err(|(refusal, _)| refusal).unwrap().to_json(), lines);
+    assert_eq!(loader.close().unwrap().to_json(), lines);
 }
 
 #[test]
 fn each_refusal_and_failure_says_what_it_is() {
     assert_eq!(Refusal::Stopped.to_string(), "the loader is stopped");
-    assert_eq!(Failure::Key("gone").to_string(), "gone");
+    assert_eq!(Failure::Key(Arc::new("gone")).to_string(), "gone");
     assert_eq!(Failure::Batch(Arc::new("down")).to_string(), "the batch failed: down");
     assert_eq!(Failure::<String>::Dropped.to_string(), "the batch was dropped");
+}
+
+/// An error that can't be cloned, with its cause.
+#[derive(Debug)]
+struct Down(fmt::Error);
+
+impl fmt::Display for Down {
+    fn fmt(&self, f: &mut fmt::Formatter<'_>) -> fmt::Result {
+        f.write_str("down")
+    }
+}
+
+impl Error for Down {
+    fn source(&self) -> Option<&(dyn Error + 'static)> {
+        Some(&self.0)
+    }
+}
+
+#[test]
+fn a_failure_is_cloned_and_says_each_error_once() {
+    let down = Arc::new(Down(fmt::Error));
+    for failure in [Failure::Key(Arc::clone(&down)), Failure::Batch(down)] {
+        assert_eq!(failure.clone().source().unwrap().to_string(), fmt::Error.to_string());
+    }
+    assert!(Failure::<Down>::Dropped.clone().source().is_none());
+}
+
+#[test]
+fn loaders_and_jobs_are_shown_without_their_values() {
+    struct Hidden;
+    let (loader, mut callers) = Loader::<Hidden, Hidden>::open(LIMITS, 1).unwrap();
+    loader.load_many(&mut callers[0], &[("user", "a"), ("user", "b"), ("user", "c")]).unwrap();
+    let jobs = loader.dispatch(&mut callers[0]).unwrap();
+    assert_eq!(jobs.len(), 2);
+    assert!(format!("{jobs:?}").starts_with("Jobs([Job { batch: 0, keys: [Key { table: \"user\", id: \"a\" }"));
+    drop(jobs);
+    assert!(format!("{loader:?}").starts_with("Loader { opened: Opened { limits: Limits { max_batch: 2,"));
+    assert!(loader.close().unwrap().outcome(0).is_some());
 }

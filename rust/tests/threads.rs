@@ -1,9 +1,9 @@
 //! Threads that share a loader, and whether its history is one of a loader of one thread.
 
 use std::collections::HashMap;
-use std::sync::Mutex;
+use std::sync::{Barrier, Mutex};
 use std::thread;
-use thrushscreen::{Call, Caller, Failure, History, Job, Key, Limits, Loader, Reply, Ticket};
+use thrushscreen::{Call, Caller, Event, Failure, History, Job, Jobs, Key, Limits, Loader, Reply, Ticket};
 
 type Numbers = Loader<u64, String>;
 
@@ -18,6 +18,7 @@ fn loaders_and_jobs_go_to_other_threads() {
     is_shared::<Caller>();
     is_shared::<Ticket>();
     is_shared::<Job<'static, u64, String>>();
+    is_shared::<Jobs<'static, u64, String>>();
     is_shared::<History<u64, String>>();
 }
 
@@ -32,7 +33,7 @@ impl Draws {
 }
 
 /// Ends each job: it settles it with what its ids spell, or fails it, or drops it.
-fn end(jobs: Vec<Job<'_, u64, String>>, draws: &mut Draws) {
+fn end(jobs: Jobs<'_, u64, String>, draws: &mut Draws) {
     for job in jobs {
         match draws.below(6) {
             0 => job.fail("down".into()).unwrap(),
@@ -126,7 +127,7 @@ fn the_history_of_threads_is_one_of_a_loader_of_one_thread() {
                 });
             }
         });
-        check(&loader.close().map_err(|(refusal, _)| refusal).unwrap());
+        check(&loader.close().unwrap());
     }
 }
 
@@ -157,6 +158,31 @@ fn a_thread_that_waits_is_woken_by_an_end_and_by_a_stop() {
     });
     seen.lock().unwrap().sort_unstable();
     assert_eq!(*seen.lock().unwrap(), [Some(1), Some(2)]);
+}
+
+#[test]
+fn threads_that_load_before_one_dispatches_need_one_statement() {
+    const ALL: u32 = 32;
+    let (loader, callers) = Numbers::open(Limits::default(), ALL).unwrap();
+    let loaded = Barrier::new(callers.len());
+    thread::scope(|scope| {
+        for mut caller in callers {
+            let (loader, loaded) = (&loader, &loaded);
+            scope.spawn(move || {
+                let ids = [0, 1, 2].map(|more| u64::from((caller.number() + more) % ALL));
+                let tickets = ids.map(|id| loader.load(&mut caller, "n", &id.to_string()).unwrap());
+                if loaded.wait().is_leader() {
+                    settle_all(loader, &mut caller);
+                }
+                for (ticket, id) in tickets.iter().zip(ids) {
+                    assert_eq!(loader.wait(&mut caller, ticket), Ok(Some(&Ok(id))));
+                }
+            });
+        }
+    });
+    let history = loader.close().unwrap();
+    assert_eq!(history.events().iter().map(Event::fresh_loads).sum::<usize>(), ALL as usize);
+    assert_eq!(history.events().iter().filter(|event| matches!(event.call, Call::Settle(_))).count(), 1);
 }
 
 /// Sends, and settles each job with what its ids spell.

@@ -1,5 +1,5 @@
 -- What the matches of a command line give.
-use Rattle.std.proofs.Common.{◌≡◌, ℕ, true, List, Option, Some, None, option_map, String, refl, sym, subst, ◌∙◌}
+use Rattle.std.proofs.Common.{◌≡◌, ℕ, true, List, Option, Some, None, option_map, String, codes, refl, sym, subst, ◌∙◌}
 use Rattle.std.specs.Option.{IfSome}
 use Rattle.std.specs.declared.alloc.Global.{Global}
 use Rattle.clap.proofs.WalkLemmas.{one_text-rows}
@@ -40,3 +40,25 @@ given_by_words built meant words m given is simple has are =
 -- the subcommand that was used has its name
 pub name_used : (m : ArgMatches) → name_of (subcommand_rows_of m) ≡ subcommand_name_of m
 name_used m = mapped_twice (λ used. used.0) _ _
+
+none_some : (name : Text) → ◌≡◌ {A = Option Text} None (Some name) → ⊥
+none_some name h = cc
+
+used_is : (used : Option (Text × List Row)) (name : Text) (rows : List Row) → name_of used ≡ Some name → option_map (λ u. u.1) used ≡ Some rows
+    → used ≡ Some (name, rows)
+used_is None name rows named has = absurd (none_some name named)
+used_is (Some u) name rows named has =
+    let first : u.0 ≡ name = cc in
+    let second : u.1 ≡ rows = cc in
+    (λ i. Some (first i, second i))
+
+-- a subcommand that was used has its name, and its option `--to` this number
+pub migrates : (m own : ArgMatches) (name : Text) (n v : ℕ) → subcommand_name_of m ≡ Some name
+    → option_map (λ u. u.1) (subcommand_rows_of m) ≡ Some (rows_of (found_of own)) → v ≡ n → (one_text (found_of own) (codes "to") ≡ None → Some v ≡ None)
+    → ((t : Text) → one_text (found_of own) (codes "to") ≡ Some t → IsDecimal t v)
+    → (rows : List Row) × (subcommand_rows_of m ≡ Some (name, rows)) × GivesNumber rows (codes "to") n
+migrates m own name n v named has is none value = (
+  rows_of (found_of own),
+  used_is (subcommand_rows_of m) name (rows_of (found_of own)) (name_used m ∙ named) has,
+  subst (GivesNumber (rows_of (found_of own)) (codes "to")) is (number_given (found_of own) (codes "to") v none value),
+)

@@ -19,6 +19,7 @@ use Rattle.dl_documents.specs.declared.input.Input.TheVariants as input
 use Rattle.dl_plans.specs.declared.settings.Options.{Options}
 use Rattle.dl_migration.specs.Migration.{IsMigrated, IsOther}
 use Rattle.dl_migration.specs.declared.target.Target.{Target}
+use Rattle.dl_plans.specs.History.{HasHistory, IsNoHistory}
 use Rattle.dl_plans.specs.Migration.{IsNotMigrated}
 use Rattle.dl_plans.specs.Run.{AppendsFront, IsDocument, read_by, IsOutput, IsRefused, Writes, WritesFront}
 use Rattle.dl_plans.specs.declared.fault.RunError.{RunError}
@@ -201,3 +202,24 @@ refused_all options bytes error.OutOfMemory h = h
 refused_all options bytes error.NotVersion1 h = h
 refused_all options bytes error.NotVersion1Or2 h = h
 refused_all options bytes (error.NoHistory f) h = h
+
+-- ---- histories
+
+pub history_all : (bytes : List ℕ) → HasHistory (take MOST_READ bytes) → HasHistory bytes
+history_all bytes h = rw (all_read bytes h.1) at h
+
+pub no_history_all : (bytes : List ℕ) (e : RunError) → IsNoHistory (take MOST_READ bytes) e → IsNoHistory bytes e
+no_history_all bytes error.Read h = h
+no_history_all bytes (error.Refused f) h = (h.0, omega (arith, h.1, length-take {A = ℕ} MOST_READ bytes))
+no_history_all bytes (error.Run f) h = h
+no_history_all bytes error.Write h = h
+no_history_all bytes error.OutOfMemory h = h
+no_history_all bytes error.NotVersion1 h = h
+no_history_all bytes error.NotVersion1Or2 h = h
+no_history_all bytes (error.NoHistory f) h = rw (all_read bytes h.0) at h
+
+pub run_has_history : (written : Result (Unit {0}) RunError) (held : Option (List ℕ)) (read : List ℕ) → IfSome held (λ bytes. read ≡ take MOST_READ bytes)
+    → HasHistory read → OnOk written (IfSome held HasHistory)
+run_has_history (Err e) held read is h = tt
+run_has_history (Ok u) None read is h = tt
+run_has_history (Ok u) (Some bytes) read is h = history_all bytes (rw is at h)

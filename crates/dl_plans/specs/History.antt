@@ -5,7 +5,7 @@ use Rattle.dl_documents.specs.declared.fault.PlanFault.TheVariants.{TooLarge}
 use Rattle.dl_history.specs.ClosedHistory.{History}
 use Rattle.dl_replay.specs.File.{IsFileFault, IsHistoryOf}
 use Rattle.dl_plans.specs.declared.fault.RunError.{RunError}
-use Rattle.dl_plans.specs.declared.fault.RunError.TheVariants.{Read, Refused, Run, Write, OutOfMemory, NotVersion1, NoHistory}
+use Rattle.dl_plans.specs.declared.fault.RunError.TheVariants.{Read, Refused, Run, Write, OutOfMemory, NotVersion1, NotVersion1Or2, NoHistory}
 
 -- the bytes, as few as a document's, are the file of a history
 abbrev pub HasHistory : List ℕ → Type 0
@@ -19,4 +19,5 @@ IsNoHistory bytes (Run fault) = ⊥
 IsNoHistory bytes Write = Unit {0}
 IsNoHistory bytes OutOfMemory = Unit {0}
 IsNoHistory bytes NotVersion1 = ⊥
+IsNoHistory bytes NotVersion1Or2 = ⊥
 IsNoHistory bytes (NoHistory fault) = (length bytes ≤ most_bytes) × IsFileFault bytes fault

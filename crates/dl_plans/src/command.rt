@@ -175,20 +175,13 @@ fn command<'a>(alloc: Global) -> Result<Command<'a>, AllocError>
 fn plans_words<'a>(alloc: Global) -> Result<Command<'a>, AllocError>
     ensures { IfOk result (λ c. app_of c ≡ plans_words_app) }
 {
-    let migrate = migrate_words(alloc)?;
-    file_words(alloc)?.subcommand(migrate)
-}
-
-/// `migrate`, with its option.
-fn migrate_words<'a>(alloc: Global) -> Result<Command<'a>, AllocError>
-    ensures { IfOk result (λ c. app_of c ≡ migrate_app) }
-{
-    Command::new(alloc, "migrate")
-        .about(
-            "Writes a plan file of version 1 as one of version 2, or of either as one of version 3",
-        )
+    let about =
+        "Writes a plan file of version 1 as one of version 2, or of either as one of version 3";
+    let migrate = Command::new(alloc, "migrate")
+        .about(about)
         .override_usage("plans migrate [--to <N>]")
-        .arg(to(alloc))
+        .arg(to(alloc))?;
+    file_words(alloc)?.subcommand(migrate)
 }
 
 /// `--to N`.

@@ -22,6 +22,6 @@ returns c =
       trace = c.in_ok-copied-2.ensures ∙ (c.get_str-3.ensures ∙ first_value-rows found (codes "trace"));
       database = c.in_ok-database.ensures ∙ (c.get_str.ensures ∙ first_value-rows found (codes "database"));
       unread = refl;
-      migrate = c.migration.ensures;
+      migrate = c.in-Some-migration.ensures;
       history = c.in_ok-copied-3.ensures ∙ (c.get_str-4.ensures ∙ first_value-rows found (codes "history"));
     }
