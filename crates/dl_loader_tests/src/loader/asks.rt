@@ -1,4 +1,4 @@
-//! The calls of a loader, from their texts, and their answers as texts.
+//! The calls of a loader, from their texts. What they reply is in the history.
 
 ghost use Rattle.std.specs.Prelude.{◌≡◌, false, IfOk, IfSome};
 ghost use Rattle.dl_desk.specs.Service.{Answers};
@@ -7,18 +7,17 @@ ghost use Rattle.dl_loader.specs.Pass.{GaveTicket};
 ghost use Rattle.dl_source.specs.Fetched.{source_of};
 
 use super::player::Scene;
-use super::texts::{jobs_text, loads_text, outcome, reply_text, user, users};
+use super::texts::{user, users};
 use dl_desk::{FetchKey, Job, Keys, Outcome};
-use dl_loader::{Ask, CallFault, GiveUp, LoaderName, Pass, Settled, Ticket, laws};
+use dl_loader::{Ask, CallFault, GiveUp, LoaderName, Pass, PrimeReply, Ticket, laws};
 use dl_source::{Fetched, Source, fetch_job};
-use dl_tests::{assert_is, made};
+use dl_tests::{assert_is, json, made};
 use std::io::Eprint;
 use std::process::Abort;
-use std::slice;
 use std::sync::Wait;
 
 impl<'a, L: LoaderName, S: Source, R: Abort + Eprint + Wait> Scene<'a, L, S, R> {
-    /// What a call answers, by its name and its words, or why the loader rejects it.
+    /// That the loader has made the call of this name with these words, or why it rejects it.
     pub(super) fn answer(&self, pass: &mut Pass<L>, name: &str, words: &str, by_law: bool) -> String
         requires { Answers (S.answer self.now.source.now) L.service }
     {
@@ -28,8 +27,8 @@ impl<'a, L: LoaderName, S: Source, R: Abort + Eprint + Wait> Scene<'a, L, S, R> 
             "load" => self.ask(pass, Ask::Load(&user(rt, alloc, first)), by_law),
             "loadMany" => self.ask(pass, Ask::LoadMany(&users(rt, alloc, words)), by_law),
             "prime" => {
-                let outcome = outcome(rt, alloc, others);
-                self.ask(pass, Ask::Prime(&user(rt, alloc, first), outcome), by_law)
+                let value = Outcome::Value(json(alloc, others).expect(rt, "no JSON"));
+                self.ask(pass, Ask::Prime(&user(rt, alloc, first), value), by_law)
             }
             "clear" => self.ask(pass, Ask::Clear(&user(rt, alloc, first)), by_law),
             "clearAll" => self.ask_owned(pass, Ask::ClearAll, by_law),
@@ -48,10 +47,11 @@ impl<'a, L: LoaderName, S: Source, R: Abort + Eprint + Wait> Scene<'a, L, S, R> 
             }
             _ => panic!(rt; "no call {name}"),
         };
-        match answer {
-            Ok(text) => text,
-            Err(fault) => format!(in alloc; "{fault:?}").expect(rt, "no memory"),
-        }
+        let text = match answer {
+            Ok(()) => String::from_str(alloc, "done"),
+            Err(fault) => format!(in alloc; "{fault:?}"),
+        };
+        text.expect(rt, "no memory")
     }
 
     /// The job of a batch with the keys of users.
@@ -71,19 +71,14 @@ impl<'a, L: LoaderName, S: Source, R: Abort + Eprint + Wait> Scene<'a, L, S, R> 
     }
 
     /// As `ask`, of a call that borrows nothing but the source.
-    fn ask_owned(
-        &self,
-        pass: &mut Pass<L>,
-        ask: Ask<'a, S>,
-        by_law: bool,
-    ) -> Result<String, CallFault>
+    fn ask_owned(&self, pass: &mut Pass<L>, ask: Ask<'a, S>, by_law: bool) -> Result<(), CallFault>
         requires { IfSome (source_asked ask) (λ source. Answers (S.answer source) L.service) }
     {
         self.ask(pass, ask, by_law)
     }
 
     /// Makes a call, by the law of one event or by its own name.
-    fn ask(&self, pass: &mut Pass<L>, ask: Ask<'_, S>, by_law: bool) -> Result<String, CallFault>
+    fn ask(&self, pass: &mut Pass<L>, ask: Ask<'_, S>, by_law: bool) -> Result<(), CallFault>
         requires { IfSome (source_asked ask) (λ source. Answers (S.answer source) L.service) }
     {
         if by_law {
@@ -102,7 +97,7 @@ impl<'a, L: LoaderName, S: Source, R: Abort + Eprint + Wait> Scene<'a, L, S, R> 
     }
 
     /// Makes a call on the locked book. No cell refuses its outcome.
-    fn make_event(&self, pass: &mut Pass<L>, ask: Ask<'_, S>) -> Result<String, CallFault>
+    fn make_event(&self, pass: &mut Pass<L>, ask: Ask<'_, S>) -> Result<(), CallFault>
         requires { IfSome (source_asked ask) (λ source. Answers (S.answer source) L.service) }
     {
         let (rt, alloc, loader) = (self.rt, self.alloc, self.loader);
@@ -116,17 +111,17 @@ impl<'a, L: LoaderName, S: Source, R: Abort + Eprint + Wait> Scene<'a, L, S, R> 
             first => first,
         };
         match event {
-            Ok((reply, refused)) => {
+            Ok((_, refused)) => {
                 assert_is!(rt, &refused, &0, "cells that refuse");
-                Ok(reply_text(rt, alloc, &reply))
+                Ok(())
             }
             Err((fault, _)) => Err(fault),
         }
     }
 
-    fn load(&self, pass: &mut Pass<L>, key: &FetchKey) -> Result<String, CallFault> {
-        let reply = self.loaded(pass, key)?.reply();
-        Ok(loads_text(self.rt, self.alloc, slice::from_ref(&reply)))
+    fn load(&self, pass: &mut Pass<L>, key: &FetchKey) -> Result<(), CallFault> {
+        drop(self.loaded(pass, key)?);
+        Ok(())
     }
 
     /// The ticket of a load.
@@ -145,26 +140,18 @@ impl<'a, L: LoaderName, S: Source, R: Abort + Eprint + Wait> Scene<'a, L, S, R> 
         )
     }
 
-    fn load_many(&self, pass: &mut Pass<L>, keys: &[FetchKey]) -> Result<String, CallFault> {
+    fn load_many(&self, pass: &mut Pass<L>, keys: &[FetchKey]) -> Result<(), CallFault> {
         let tickets = made!(
             self,
             "Loader::load_many",
             Err(CallFault::OutOfMemory),
             self.loader.load_many(self.rt, self.alloc, pass, keys)
         );
-        let mut replies = Vec::new(self.alloc);
-        for ticket in &tickets? {
-            replies.push(ticket.reply()).expect(self.rt, "no memory");
-        }
-        Ok(loads_text(self.rt, self.alloc, &replies))
+        drop(tickets?);
+        Ok(())
     }
 
-    fn prime(
-        &self,
-        pass: &mut Pass<L>,
-        key: &FetchKey,
-        outcome: Outcome,
-    ) -> Result<String, CallFault> {
+    fn prime(&self, pass: &mut Pass<L>, key: &FetchKey, outcome: Outcome) -> Result<(), CallFault> {
         let (rt, alloc) = (self.rt, self.alloc);
         let copy = outcome.try_copy().expect(rt, "no copy");
         let reply = made!(
@@ -174,47 +161,42 @@ impl<'a, L: LoaderName, S: Source, R: Abort + Eprint + Wait> Scene<'a, L, S, R> 
             self.loader.prime(rt, alloc, pass, key, outcome),
             self.loader.prime(rt, alloc, pass, key, copy)
         );
-        let reply = reply?;
-        Ok(format!(in alloc; "{reply:?}").expect(rt, "no memory"))
+        if let PrimeReply::Primed { shown, .. } = reply? {
+            assert!(rt; shown, "the cell refuses");
+        }
+        Ok(())
     }
 
-    fn clear(&self, pass: &mut Pass<L>, key: &FetchKey) -> Result<String, CallFault> {
-        let cleared = made!(
+    fn clear(&self, pass: &mut Pass<L>, key: &FetchKey) -> Result<(), CallFault> {
+        made!(
             self,
             "Loader::clear",
             Err(CallFault::OutOfMemory),
             self.loader.clear(self.rt, self.alloc, pass, key)
-        );
-        self.done(cleared)
+        )
     }
 
-    fn clear_all(&self, pass: &mut Pass<L>) -> Result<String, CallFault> {
-        let cleared = made!(
+    fn clear_all(&self, pass: &mut Pass<L>) -> Result<(), CallFault> {
+        made!(
             self,
             "Loader::clear_all",
             Err(CallFault::OutOfMemory),
             self.loader.clear_all(self.rt, self.alloc, pass)
-        );
-        self.done(cleared)
+        )
     }
 
-    /// The text of a call with no answer.
-    fn done(&self, made: Result<(), CallFault>) -> Result<String, CallFault> {
-        made?;
-        Ok(String::from_str(self.alloc, "done").expect(self.rt, "no memory"))
-    }
-
-    fn dispatch(&self, pass: &mut Pass<L>) -> Result<String, CallFault> {
+    fn dispatch(&self, pass: &mut Pass<L>) -> Result<(), CallFault> {
         let jobs = made!(
             self,
             "Loader::dispatch",
             Err(CallFault::OutOfMemory),
             self.loader.dispatch(self.rt, self.alloc, pass)
         );
-        Ok(jobs_text(self.rt, self.alloc, &jobs?))
+        drop(jobs?);
+        Ok(())
     }
 
-    fn settle(&self, pass: &mut Pass<L>, fetched: Fetched<'_, S>) -> Result<String, CallFault>
+    fn settle(&self, pass: &mut Pass<L>, fetched: Fetched<'_, S>) -> Result<(), CallFault>
         requires { Answers (S.answer (source_of fetched)) L.service }
     {
         self.refusal.begin();
@@ -230,12 +212,15 @@ impl<'a, L: LoaderName, S: Source, R: Abort + Eprint + Wait> Scene<'a, L, S, R> 
             first => first,
         };
         match ended {
-            Ok(settled) => Ok(self.shown(settled)),
+            Ok(settled) => {
+                assert_is!(self.rt, &settled.refused, &0, "cells that refuse");
+                Ok(())
+            }
             Err((fault, _)) => Err(fault),
         }
     }
 
-    fn fail(&self, pass: &mut Pass<L>, job: Job, why: GiveUp) -> Result<String, CallFault> {
+    fn fail(&self, pass: &mut Pass<L>, job: Job, why: GiveUp) -> Result<(), CallFault> {
         self.refusal.begin();
         let first = self.loader.fail(self.rt, self.alloc, pass, job, why);
         let is_out_of_memory = matches!(first, Err((CallFault::OutOfMemory, _)));
@@ -247,15 +232,11 @@ impl<'a, L: LoaderName, S: Source, R: Abort + Eprint + Wait> Scene<'a, L, S, R> 
             first => first,
         };
         match ended {
-            Ok(settled) => Ok(self.shown(settled)),
+            Ok(settled) => {
+                assert_is!(self.rt, &settled.refused, &0, "cells that refuse");
+                Ok(())
+            }
             Err((fault, _)) => Err(fault),
         }
-    }
-
-    /// The text of an end: the number of cells that show it. None refuses it.
-    fn shown(&self, settled: Settled) -> String {
-        let Settled { shown, refused } = settled;
-        assert_is!(self.rt, &refused, &0, "cells that refuse");
-        format!(in self.alloc; "{shown} shown").expect(self.rt, "no memory")
     }
 }
