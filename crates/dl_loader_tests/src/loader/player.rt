@@ -69,7 +69,8 @@ impl<'a, L: LoaderName, S: Source, R: Abort + Eprint + Wait> Scene<'a, L, S, R> 
 
     /// Loads a key that the loader holds, and reads its outcome.
     fn read_held(&self, pass: &mut Pass<L>, how: &str, id: &str) -> String {
-        let ticket = self.loaded(pass, &user(self.rt, self.alloc, id));
+        let key = user(self.rt, self.alloc, id);
+        let ticket = self.loader.load(self.rt, self.alloc, pass, &key);
         let mut ticket = ticket.expect(self.rt, "no ticket");
         let text = match how {
             "look" => looked_text(self.rt, self.alloc, ticket.look()),

@@ -74,8 +74,9 @@ static ROWS: [Row; 3] = [
         parts: &[Part {
             steps: &[
                 (0, "prime u1 1", "done"),
+                (0, "load u1", "done"),
                 (0, "look u1", "hit 0: 1"),
-                (0, "tells", " 0 1, 2 calls, front 2"),
+                (0, "tells", " 0 1 2, 3 calls, front 3"),
                 (0, "prime u1 1", "done"),
                 (0, "loadMany u1 u2", "done"),
                 (0, "dispatch", "done"),
@@ -85,11 +86,12 @@ static ROWS: [Row; 3] = [
             close: concat!(
                 "0 caller 0 prime user/u1 by 1: primed 0\n",
                 "1 caller 0 load user/u1: hit 0\n",
-                "2 caller 0 prime user/u1 by 1: kept\n",
-                "3 caller 0 loadMany [user/u1, user/u2]: [hit 0, fresh 1 in batch 0]\n",
-                "4 caller 0 dispatch: sent [batch 0 of [user/u2]]\n",
-                "5 caller 0 fail batch 0 by out of memory: done\n",
-                "caller 0: 0 1 2 3 4 5 of [0, 1, 2, 3, 4, 5]\n",
+                "2 caller 0 load user/u1: hit 0\n",
+                "3 caller 0 prime user/u1 by 1: kept\n",
+                "4 caller 0 loadMany [user/u1, user/u2]: [hit 0, fresh 1 in batch 0]\n",
+                "5 caller 0 dispatch: sent [batch 0 of [user/u2]]\n",
+                "6 caller 0 fail batch 0 by out of memory: done\n",
+                "caller 0: 0 1 2 3 4 5 6 of [0, 1, 2, 3, 4, 5, 6]\n",
             ),
         }],
     },
