@@ -1,10 +1,10 @@
 //! The reference loader: what no contract says. It replies to each call.
 
 use crate::assert_is;
-use dl_desk::{DeskFault, Job, LoadReply, Reply, Text};
+use dl_desk::Text;
 use dl_documents::{Input, Script, read_input};
 use dl_reference::{Atom, Rules, answer};
-use std::alloc::{AllocError, Global};
+use std::alloc::Global;
 use std::hash::RandomState;
 use std::process::Abort;
 
@@ -16,12 +16,12 @@ const SCRIPT: &str = concat!(
     r#"{"fail":1},{"load":["s","x"]},{"clearAll":true},{"load":["s","x"]},{"dispatch":true}]}"#
 );
 
-/// The text that it gives, worked out by hand: batch 0 fails late, so the loader still holds `a` with its newer cell,
-/// and forgets `b`.
+/// What it gives, a line for each call, worked out by hand: batch 0 fails late, so the loader still holds `a` with its
+/// newer cell, and forgets `b`.
 const TEXT: &str = concat!(
-    "fresh 0 0\nmany 3\nfresh 1 1\nfresh 2 0\nhit 1\nprimed 3\nkept\nrefused NotSent\nrefused NoBatch\n",
-    "sent 2\njob 0 [\"t\",\"a\"] [\"t\",\"b\"]\njob 1 [\"s\",\"x\"]\nok\nfresh 4 2\nok\nhit 4\nfresh 5 2\nok\n",
-    "refused SettledBefore\nhit 1\nok\nrefused CellsFull 6\nsent 1\njob 2 [\"t\",\"a\"] [\"t\",\"b\"]\n"
+    "fresh 0 in batch 0\n[fresh 1 in batch 1, fresh 2 in batch 0, hit 1]\nprimed 3\nkept\nNotSent\nNoBatch\n",
+    "sent [batch 0 of [t/a, t/b], batch 1 of [s/x]]\ndone\nfresh 4 in batch 2\ndone\nhit 4\nfresh 5 in batch 2\ndone\n",
+    "SettledBefore\nhit 1\ndone\nCellsFull { limit: 6 }\nsent [batch 2 of [t/a, t/b]]\n"
 );
 
 /// The script that a document is, if it is one.
@@ -47,55 +47,13 @@ fn lines_of(rt: &impl Abort, alloc: Global, rules: &Rules, script: &Script) -> S
     let mut history: Vec<Atom> = Vec::new(alloc);
     let mut text = String::new(alloc);
     for call in script.calls.as_slice() {
-        let told = answer(alloc, rules, &mut history, call).expect(rt, "no memory");
-        write_answer(&mut text, &told).expect(rt, "no memory");
+        let written = match answer(alloc, rules, &mut history, call).expect(rt, "no memory") {
+            Ok(reply) => writeln!(text, "{reply}"),
+            Err(fault) => writeln!(text, "{fault:?}"),
+        };
+        written.expect(rt, "no memory");
     }
     text
-}
-
-fn write_answer(text: &mut String, told: &Result<Reply, DeskFault>) -> Result<(), AllocError> {
-    match told {
-        Ok(reply) => write_reply(text, reply),
-        Err(DeskFault::CellsFull { limit }) => writeln!(text, "refused CellsFull {limit}"),
-        Err(fault) => writeln!(text, "refused {fault:?}"),
-    }
-}
-
-fn write_reply(text: &mut String, reply: &Reply) -> Result<(), AllocError> {
-    match reply {
-        Reply::Loaded(reply) => write_load(text, *reply),
-        Reply::Many(replies) => {
-            writeln!(text, "many {}", replies.as_slice().len())?;
-            for reply in replies.as_slice() {
-                write_load(text, *reply)?;
-            }
-            Ok(())
-        }
-        Reply::Primed(cell) => writeln!(text, "primed {cell}"),
-        Reply::Kept => writeln!(text, "kept"),
-        Reply::Done => writeln!(text, "ok"),
-        Reply::Sent(jobs) => write_sent(text, jobs.as_slice()),
-    }
-}
-
-fn write_load(text: &mut String, reply: LoadReply) -> Result<(), AllocError> {
-    match reply {
-        LoadReply::Hit(cell) => writeln!(text, "hit {cell}"),
-        LoadReply::Fresh { cell, batch } => writeln!(text, "fresh {cell} {batch}"),
-    }
-}
-
-/// Writes jobs of keys whose texts need no escape in JSON.
-fn write_sent(text: &mut String, jobs: &[Job]) -> Result<(), AllocError> {
-    writeln!(text, "sent {}", jobs.len())?;
-    for job in jobs {
-        write!(text, "job {}", job.batch)?;
-        for key in job.keys.as_slice() {
-            write!(text, " [\"{}\",\"{}\"]", key.table(), key.id())?;
-        }
-        writeln!(text, "")?;
-    }
-    Ok(())
 }
 
 #[test]
