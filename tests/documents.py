@@ -708,6 +708,14 @@ ROWS["a plan file has limits"] = [
         "}]]}",
         about="257 steps, of which the last has a term of height 33",
     ),
+    refused(
+        "too deep plan 0 step 0",
+        '{"version":1,"maxCells":0,"tables":{},"plans":[[{"eval":',
+        ('{"all":[', 33),
+        ("]}", 33),
+        "}]]}",
+        about="a term of height 33, and then tables and a limit that are none",
+    ),
     answered(
         "an each of a table of 64 bytes",
         document(TERM, '{"each":[{"value":{"f":["a"]}},"f","', ("t", 64), '"]}}]]}'),

@@ -63,6 +63,20 @@ impl Shape {
             Shape::List(values) => Ok(Some(values)),
         }
     }
+
+    /// The tree, moved out of a row that nothing else shares, and else a copy.
+    ///
+    /// # Errors
+    /// `AllocError` if memory runs out.
+    fn into_tree(self, alloc: Global) -> Result<Value, AllocError>
+        ensures tree { IfOk result (λ v. view v ≡ tree_of self) }
+        ensures whole { IfOk result (λ v. has_float (view v) ≡ false) }
+    {
+        match self {
+            Shape::Row(row) => row_tree(row),
+            Shape::List(values) => Ok(Value::Array(copies(alloc, &values)?)),
+        }
+    }
 }
 
 impl Model for AnswerValue {
@@ -129,6 +143,18 @@ impl AnswerValue {
     {
         let AnswerValue { shape } = self;
         shape.into_items(alloc)
+    }
+
+    /// The tree, moved out of a row that nothing else shares, and else a copy.
+    ///
+    /// # Errors
+    /// `AllocError` if memory runs out.
+    fn into_tree(self, alloc: Global) -> Result<Value, AllocError>
+        ensures tree { IfOk result (λ v. view v ≡ self) }
+        ensures whole { IfOk result (λ v. has_float (view v) ≡ false) }
+    {
+        let AnswerValue { shape } = self;
+        shape.into_tree(alloc)
     }
 
     /// The member of this name, if the value is an object that has one. A list has none.
@@ -215,7 +241,7 @@ fn members_of(
     let mut values = values;
     let mut members = Map::new(alloc);
     while let Some(value) = values.pop() {
-        put_at(alloc, names, values.len(), &value, &mut members)?;
+        put_at(alloc, names, values.len(), value, &mut members)?;
     }
     Ok(members)
 }
@@ -225,11 +251,11 @@ fn put_at(
     alloc: Global,
     names: &Vec<Text>,
     place: usize,
-    value: &AnswerValue,
+    value: AnswerValue,
     members: &mut Map<String, Value>,
 ) -> Result<(), AllocError>
     ensures put { OnOk result (members_view members.new.entries
-        ≡ put_named (slice_get names.now.items place) value.now (members_view members.old.entries)) }
+        ≡ put_named (slice_get names.now.items place) value (members_view members.old.entries)) }
     ensures whole { OnOk result
         (members_have_float (members_view members.old.entries) ≡ false → members_have_float (members_view members.new.entries) ≡ false) }
 {
@@ -237,9 +263,19 @@ fn put_at(
         return Ok(());
     };
     let name = String::from_str(alloc, name.as_str())?;
-    let value = copy(alloc, value)?;
+    let value = value.into_tree(alloc)?;
     drop(members.insert(name, value)?);
     Ok(())
+}
+
+/// The tree of a row, moved out of it if nothing else shares it.
+fn row_tree(row: Json) -> Result<Value, AllocError>
+    ensures tree { IfOk result (λ v. view v ≡ row) }
+    ensures whole { IfOk result (λ v. has_float (view v) ≡ false) }
+{
+    // Its clause says that no number is a float.
+    let _ = row.value();
+    row.into_value()
 }
 
 /// Appends the text of a value.

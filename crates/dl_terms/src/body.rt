@@ -118,14 +118,23 @@ fn enter(
             Ok(Node::Done(Answer::Value(value)))
         }
         Term::Pick { part, field } => {
+            if part.is_item() {
+                return Ok(Node::Done(pick_value(alloc, item, field)?));
+            }
             let field = field.try_copy()?;
             enter_part(alloc, part, Frame::Pick { field }, item, asked)
         }
         Term::Follow { part, field, table } => {
+            if part.is_item() {
+                return follow(alloc, item, field, table, asked);
+            }
             let (field, table) = (field.try_copy()?, table.try_copy()?);
             enter_part(alloc, part, Frame::Follow { field, table }, item, asked)
         }
         Term::Each { part, field, table } => {
+            if part.is_item() {
+                return each(alloc, item, field, table, asked);
+            }
             let (field, table) = (field.try_copy()?, table.try_copy()?);
             enter_part(alloc, part, Frame::Each { field, table }, item, asked)
         }
@@ -173,9 +182,9 @@ fn go_in(alloc: Global, part: Node, frame: Frame, asked: &mut Asked<'_>) -> Resu
     if let Some(answer) = part.take_answer() {
         return go_on(alloc, frame, answer, asked);
     }
-    let mut frames = Vec::new(alloc);
-    frames.push(frame)?;
     let part = Box::new(alloc, part)?;
+    let mut frames = Vec::with_capacity(alloc, 1)?;
+    frames.push_reserved(frame);
     Ok(Node::Chain { part, frames })
 }
 

@@ -1,7 +1,7 @@
 //! Fetch terms.
 
-ghost use Rattle.std.specs.Prelude.{◌≡◌, ◌-◌, ◌^◌, min, IfOk};
-ghost use Rattle.dl_terms.specs.Tree.{depth_of, depth_of_all, height_of, height_of_all};
+ghost use Rattle.std.specs.Prelude.{◌≡◌, ◌-◌, ◌^◌, min, true, IfOk};
+ghost use Rattle.dl_terms.specs.Tree.{depth_of, depth_of_all, height_of, height_of_all, the_item};
 ghost use Rattle.dl_terms.specs.View.{term_view, terms_view};
 
 use dl_values::{FetchKey, Json, Text};
@@ -101,6 +101,13 @@ impl Term {
             }
             Term::Object { parts, .. } => highest(parts).saturating_add(1),
         }
+    }
+
+    /// Whether it is the item of a body.
+    pub(crate) fn is_item(&self) -> bool
+        ensures { result ≡ true → term_view self.now ≡ the_item }
+    {
+        matches!(self, Term::Item)
     }
 
     /// The same term, with memory of its own.

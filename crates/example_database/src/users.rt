@@ -42,9 +42,18 @@ fn names(
     keys: &[FetchKey],
 ) -> Result<Outcomes, Error> {
     let mut conn = Connection::open(rt, path)?;
+    let outcomes = each_name(alloc, &mut conn, keys);
+    conn.close().and(outcomes)
+}
+
+fn each_name(
+    alloc: Global,
+    conn: &mut Connection<FileStore<File>>,
+    keys: &[FetchKey],
+) -> Result<Outcomes, Error> {
     let mut outcomes = Vec::with_capacity(alloc, keys.len())?;
     for key in keys {
-        outcomes.push(name(alloc, &mut conn, key.id())?)?;
+        outcomes.push(name(alloc, conn, key.id())?)?;
     }
     Ok(Outcomes::new(outcomes))
 }

@@ -176,12 +176,21 @@ impl<'a, L: LoaderName, S: Source, R: Abort + Eprint + Wait> Scene<'a, L, S, R> 
     {
         let (rt, alloc, loader) = (self.rt, self.alloc, self.loader);
         match ask {
-            Ask::Load(key) => loader.load(rt, alloc, pass, key).map(drop),
-            Ask::LoadMany(keys) => loader.load_many(rt, alloc, pass, keys).map(drop),
+            Ask::Load(key) => {
+                drop(loader.load(rt, alloc, pass, key)?);
+                Ok(())
+            }
+            Ask::LoadMany(keys) => {
+                drop(loader.load_many(rt, alloc, pass, keys)?);
+                Ok(())
+            }
             Ask::Prime(key, outcome) => self.prime(pass, key, outcome),
             Ask::Clear(key) => loader.clear(rt, alloc, pass, key),
             Ask::ClearAll => loader.clear_all(rt, alloc, pass),
-            Ask::Dispatch => loader.dispatch(rt, alloc, pass).map(drop),
+            Ask::Dispatch => {
+                drop(loader.dispatch(rt, alloc, pass)?);
+                Ok(())
+            }
             Ask::Settle(fetched) => self.settle(pass, fetched),
             Ask::Fail(job, why) => self.fail(pass, job, why),
         }

@@ -22,7 +22,7 @@ returns-clause-put c =
     ∙ members_view-insert_entry c.args.members.now.entries name value in
     inserted
     ∙ (ap (λ k. put k (view value) old) named
-    ∙ (ap (λ d. put c.in-Some.name.now d old) c.in_ok-value.ensures.tree ∙ ap (λ o. put_named o c.args.value.now old) (sym there)))
+    ∙ (ap (λ d. put c.in-Some.name.now d old) c.in_ok-value.ensures.tree ∙ ap (λ o. put_named o c.args.value old) (sym there)))
 
 pub returns-clause-whole : goal.returns-clause-whole
 returns-clause-whole c =

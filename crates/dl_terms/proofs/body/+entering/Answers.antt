@@ -127,21 +127,21 @@ pub enter-enter_part-requires : goal.enter-enter_part-requires
 enter-enter_part-requires t c =
     let part = c.in-Pick.part.value in
     let high : height_of (term_view c.args.term.now) ≡ height_of (term_view part) + 1 = ap height_of (ap term_view c.in-Pick.is ∙ term_view-Pick c.in-Pick.part c.in-Pick.field) in
-    let same : height_of (term_view c.deref.result.now) ≡ height_of (term_view part) = ap (λ x. height_of (term_view x)) c.deref.ensures in
+    let same : height_of (term_view c.deref-in-Pick.result.now) ≡ height_of (term_view part) = ap (λ x. height_of (term_view x)) c.deref-in-Pick.ensures in
     omega (arith, c.decreases)
 
 pub enter-enter_part-requires-in-Follow : goal.enter-enter_part-requires-in-Follow
 enter-enter_part-requires-in-Follow t c =
     let part = c.in-Follow.part.value in
     let high : height_of (term_view c.args.term.now) ≡ height_of (term_view part) + 1 = ap height_of (ap term_view c.in-Follow.is ∙ term_view-Follow c.in-Follow.part c.in-Follow.field c.in-Follow.table) in
-    let same : height_of (term_view c.deref-in-Follow.result.now) ≡ height_of (term_view part) = ap (λ x. height_of (term_view x)) c.deref-in-Follow.ensures in
+    let same : height_of (term_view c.deref-in-Follow-2.result.now) ≡ height_of (term_view part) = ap (λ x. height_of (term_view x)) c.deref-in-Follow-2.ensures in
     omega (arith, c.decreases)
 
 pub enter-enter_part-requires-in-Each : goal.enter-enter_part-requires-in-Each
 enter-enter_part-requires-in-Each t c =
     let part = c.in-Each.part.value in
     let high : height_of (term_view c.args.term.now) ≡ height_of (term_view part) + 1 = ap height_of (ap term_view c.in-Each.is ∙ term_view-Each c.in-Each.part c.in-Each.field c.in-Each.table) in
-    let same : height_of (term_view c.deref-in-Each.result.now) ≡ height_of (term_view part) = ap (λ x. height_of (term_view x)) c.deref-in-Each.ensures in
+    let same : height_of (term_view c.deref-in-Each-2.result.now) ≡ height_of (term_view part) = ap (λ x. height_of (term_view x)) c.deref-in-Each-2.ensures in
     omega (arith, c.decreases)
 
 pub enter-enter_part-requires-in-Over : goal.enter-enter_part-requires-in-Over
