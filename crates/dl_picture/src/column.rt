@@ -1,6 +1,6 @@
 //! Columns: what a call did to its keys, which keys a batch has, or which batches a worker ended.
 
-use crate::cut_text::{CHARACTER, push_cut_text};
+use crate::cut_text::{CHARACTER, push_cut_text, room_for};
 use crate::lines::{Line, Lines};
 use crate::mark::{Badges, Mark};
 use crate::phrase::Phrase;
@@ -37,6 +37,9 @@ const PADDING: u64 = 10;
 const LINE_ROOM: u64 = 24;
 
 const BATCH_ROOM: u64 = 7;
+
+/// How many characters a line has room for that has no badge.
+const NOTE_ROOM: u64 = LINE_ROOM + BADGE_ROOM;
 
 /// A column: a heading, what is to the right of it, what is said below it, and lines.
 #[derive(Clone, Copy)]
@@ -75,6 +78,7 @@ impl Column<'_> {
     /// How far below its top the lines begin.
     pub(crate) fn top(&self) -> u64 {
         match self.note {
+            Some(note) if takes_two_lines(note) => HEADING_HEIGHT + LINE_HEIGHT + LINE_HEIGHT,
             Some(_) => HEADING_HEIGHT + LINE_HEIGHT,
             None => HEADING_HEIGHT,
         }
@@ -94,14 +98,56 @@ pub(crate) fn push_column(sheet: &mut Sheet, x: u64, y: u64, height: u64, column
     sheet.push("</svg>\n");
 }
 
+/// Whether what is said below the heading of a column takes two lines: it has several words, and one line has no room
+/// for them.
+fn takes_two_lines(note: &str) -> bool {
+    note.contains(' ') && room_for(note) > NOTE_ROOM
+}
+
 /// What is said below the heading of a column.
 fn push_note(sheet: &mut Sheet, note: &str) {
     let place = [PADDING, HEADING_HEIGHT];
     sheet.push_form("<g class='note' transform='translate(# #)'><title>", &place);
     sheet.push_escaped(note);
     sheet.push("</title>");
-    push_cut_text(sheet, 0, FOOT, note, LINE_ROOM + BADGE_ROOM);
+    if takes_two_lines(note) {
+        push_two_lines(sheet, note);
+    } else {
+        push_cut_text(sheet, 0, FOOT, note, NOTE_ROOM);
+    }
     sheet.push("</g>\n");
+}
+
+/// A note on two lines: the first one has the words that fit it, at least one, and the second one the others.
+fn push_two_lines(sheet: &mut Sheet, note: &str) {
+    let (mut first, mut second) = (Sheet::new(sheet.alloc), Sheet::new(sheet.alloc));
+    for word in note.split(' ') {
+        let taken = room_for(first.text()).saturating_add(1);
+        let fits = first.text().is_empty() || taken.saturating_add(room_for(word)) <= NOTE_ROOM;
+        if fits && second.text().is_empty() {
+            push_word(&mut first, word);
+        } else {
+            push_word(&mut second, word);
+        }
+    }
+    push_line_of(sheet, FOOT, first);
+    push_line_of(sheet, FOOT + LINE_HEIGHT, second);
+}
+
+/// Appends a word behind those of a line.
+fn push_word(line: &mut Sheet, word: &str) {
+    if !line.text().is_empty() {
+        line.push(" ");
+    }
+    line.push(word);
+}
+
+/// A line of a note at this height, without its middle if it needs more room than it has.
+fn push_line_of(sheet: &mut Sheet, y: u64, line: Sheet) {
+    match line.finish() {
+        Ok(text) => push_cut_text(sheet, 0, y, text.as_str(), NOTE_ROOM),
+        Err(error) => sheet.note(Err(error)),
+    }
 }
 
 /// The beginning of a column of this height, with its corner at x and y, and its card.

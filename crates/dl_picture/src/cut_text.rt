@@ -14,7 +14,7 @@ fn room_of(c: char) -> u64 {
 }
 
 /// The room of a text, in narrow characters.
-fn room_for(text: &str) -> u64 {
+pub(crate) fn room_for(text: &str) -> u64 {
     let mut room: u64 = 0;
     for c in text.chars() {
         room = room.saturating_add(room_of(c));

@@ -1,7 +1,7 @@
 //! Drawings: elements of SVG from top to bottom, in rows of columns.
 
 use crate::column::{COLUMN_WIDTH, Column, push_column};
-use crate::head::{push_join_meaning, push_mark, push_meaning};
+use crate::head::{LEGEND_STEP, push_join_meaning, push_mark, push_meaning};
 use crate::joins::Joins;
 use crate::lines::MOST_KEYS;
 use crate::mark::{MARKS, Mark};
@@ -171,8 +171,9 @@ impl Drawing {
         }
     }
 
-    /// What the marks mean that occur, in their order, then the lines, and the numbers of steps.
-    fn legend_sheet(&mut self) -> Sheet {
+    /// What the marks mean that occur, in their order, and below these what the lines and the numbers of steps do. A row
+    /// of the least width has room for each of the two.
+    fn legend_sheet(&self) -> Sheet {
         let mut sheet = Sheet::new(self.sheet.alloc);
         let (mut x, y) = (MARGIN, self.legend);
         for mark in &MARKS {
@@ -180,13 +181,13 @@ impl Drawing {
                 x = push_mark(&mut sheet, x, y, *mark);
             }
         }
+        let (mut x, y) = (MARGIN, y.saturating_add(LEGEND_STEP));
         if self.joins.are_drawn() {
             x = push_join_meaning(&mut sheet, x, y);
         }
         if self.has_steps {
-            x = push_meaning(&mut sheet, x, y, STEP_MEANING);
+            push_meaning(&mut sheet, x, y, STEP_MEANING);
         }
-        self.width = self.width.max(x);
         sheet
     }
 

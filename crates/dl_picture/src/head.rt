@@ -19,6 +19,9 @@ const TILE_STEP: u64 = 167;
 /// The room below the tiles, and below the legend.
 const ROOM: u64 = 20;
 
+/// How far below its first line the legend's second one is.
+pub(crate) const LEGEND_STEP: u64 = 20;
+
 /// The room of a sign in front of its meaning, and behind that.
 const SIGN_STEP: u64 = 22;
 
@@ -40,13 +43,20 @@ pub(crate) fn add_numbers(drawing: &mut Drawing, numbers: &HistoryNumbers, keys:
     add_tile(drawing, "mean", "mean batch", mean);
 }
 
-/// A mean: a whole number, and a fraction if it isn't whole.
+/// A mean: a whole number, or rounded to a tenth.
 fn mean_phrase(mean: Option<Mean>) -> Phrase {
     match mean {
         Some(mean) if mean.rest == 0 => Phrase::Numbered("", mean.whole, ""),
-        Some(mean) => Phrase::Mean(mean),
+        Some(mean) => Phrase::Tenths(tenths_of(mean)),
         None => Phrase::Words("none"),
     }
+}
+
+/// How many tenths a mean has, rounded, and up from a half.
+fn tenths_of(mean: Mean) -> u64 {
+    let of = mean.of.max(1);
+    let rest = mean.rest.saturating_mul(10).saturating_add(of / 2) / of;
+    mean.whole.saturating_mul(10).saturating_add(rest)
 }
 
 /// A tile with a count.
@@ -73,10 +83,10 @@ fn add_tile(drawing: &mut Drawing, name: &str, words: &'static str, figure: Phra
     sheet.push("\n");
 }
 
-/// Ends the head: below the tiles, it has room for the legend.
+/// Ends the head: below the tiles, it has room for the two lines of the legend.
 pub(crate) fn end_head(drawing: &mut Drawing) {
     drawing.legend = drawing.height.saturating_add(TILE_HEIGHT + ROOM);
-    drawing.add_height(TILE_HEIGHT + ROOM + ROOM + ROOM);
+    drawing.add_height(TILE_HEIGHT + ROOM + LEGEND_STEP + ROOM);
 }
 
 /// What a mark means, with its corner at x and y, and where the next sign begins.

@@ -1,7 +1,5 @@
 //! Phrases: words of the program, alone or about numbers.
 
-use crate::batches::Mean;
-
 /// Words of the program, alone or about numbers.
 #[derive(Clone, Copy)]
 pub(crate) enum Phrase {
@@ -13,8 +11,8 @@ pub(crate) enum Phrase {
     Named(u64, &'static str),
     /// Words, a number, ` to ` and another number.
     Range(&'static str, u64, u64),
-    /// A whole number and a fraction.
-    Mean(Mean),
+    /// A number, in tenths.
+    Tenths(u64),
 }
 
 impl Phrase {

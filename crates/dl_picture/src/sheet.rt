@@ -103,7 +103,7 @@ impl Sheet {
                 self.push(front);
                 self.push_form("# to #", &[first, last]);
             }
-            Phrase::Mean(mean) => self.push_form("# #/#", &[mean.whole, mean.rest, mean.of]),
+            Phrase::Tenths(tenths) => self.push_form("#.#", &[tenths / 10, tenths % 10]),
         }
     }
 
@@ -139,6 +139,11 @@ impl Sheet {
         if !other.is_whole {
             self.is_whole = false;
         }
+    }
+
+    /// What is on it so far.
+    pub(crate) fn text(&self) -> &str {
+        self.text.as_str()
     }
 
     /// The text. Fails if memory ran out.
