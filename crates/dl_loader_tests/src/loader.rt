@@ -158,25 +158,29 @@ static CROWDS: [Crowd; 9] = [
     Crowd {
         max_batch: 1,
         loads: &[("u1", "Ada")],
-        release: Release::By(&[("dispatch", "done"), ("law settle 0 u1", "done")]),
+        release: Release::By(&[("dispatch", "0: u1"), ("law settle 0 u1", "Done")]),
         is_late: false,
     },
     Crowd {
         max_batch: 1,
         loads: &[("u1", "memory")],
-        release: Release::By(&[("dispatch", "done"), ("law fail 0 u1", "done")]),
+        release: Release::By(&[("dispatch", "0: u1"), ("law fail 0 u1", "Done")]),
         is_late: false,
     },
     Crowd {
         max_batch: 1,
         loads: &[("u1", "memory")],
-        release: Release::By(&[("dispatch", "done"), ("fail 0 u1", "done")]),
+        release: Release::By(&[("dispatch", "0: u1"), ("fail 0 u1", "1 shown")]),
         is_late: false,
     },
     Crowd {
         max_batch: 1,
         loads: &[("u1", "Ada")],
-        release: Release::By(&[("dispatch", "done"), ("settle 0 u1", "done"), ("stop", "")]),
+        release: Release::By(&[
+            ("dispatch", "0: u1"),
+            ("settle 0 u1", "1 shown"),
+            ("stop", ""),
+        ]),
         is_late: false,
     },
     Crowd {

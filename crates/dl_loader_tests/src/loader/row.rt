@@ -82,7 +82,7 @@ fn close<L: LoaderName, R: Abort + Eprint>(
     match closed(stage, loader, passes) {
         Ok(history) => {
             let text = history_text(stage, &history);
-            assert!(rt; text.ends_with(part.close), "{text}");
+            assert_is!(rt, &text.as_str(), &part.close, "close");
             None
         }
         Err((fault, loader, mut passes)) => {
