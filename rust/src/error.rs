@@ -12,7 +12,8 @@ pub enum Failure<E> {
     Key(Arc<E>),
     /// The whole batch failed. The loader has forgotten its keys, so that a later load fetches them again.
     Batch(Arc<E>),
-    /// The batch failed since its [`Job`](crate::Job) was dropped. The loader has forgotten its keys here too.
+    /// The batch failed since its [`Job`](crate::Job) was dropped, or got another number of outcomes than it has keys. The loader has
+    /// forgotten its keys here too.
     Dropped,
 }
 
@@ -42,7 +43,7 @@ impl<E: fmt::Display> fmt::Display for Failure<E> {
     }
 }
 
-/// Its text has that of your error, so `source` gives what is below your error, and not your error again.
+/// Its text already has that of your error. So `source` skips your error, and gives your error's own source.
 impl<E: Error + 'static> Error for Failure<E> {
     fn source(&self) -> Option<&(dyn Error + 'static)> {
         match self {
@@ -98,7 +99,7 @@ impl fmt::Display for Refusal {
             Refusal::BadLengths => "a batch is settled with an outcome for each key",
             Refusal::Stopped => "the loader is stopped",
             Refusal::Unsettled => {
-                "a batch has not ended: dispatch, and settle or fail each job; if the loader is stopped, drop it, since it has no history"
+                "a batch has not ended: drop the loader if it is stopped, since it has no history; or dispatch, and settle or fail each job"
             }
             Refusal::OtherLoader => "the caller or the ticket is of another loader",
             Refusal::OtherCaller => "the ticket is of another caller: wait with the caller that loaded it",

@@ -2,6 +2,7 @@
 
 use crate::cells::Cells;
 use crate::loader::{Key, Opened, Outcome};
+use std::fmt;
 use std::fmt::Write;
 use std::ops::Range;
 
@@ -49,9 +50,21 @@ impl<V, E> History<V, E> {
     }
 }
 
+/// A line for each call, by its place.
+impl<V, E> fmt::Display for History<V, E> {
+    fn fmt(&self, f: &mut fmt::Formatter<'_>) -> fmt::Result {
+        self.events.iter().enumerate().try_for_each(|(at, event)| writeln!(f, "{at} {event}"))
+    }
+}
+
 /// A list of JSON.
 fn listed<T>(items: &[T], written: impl Fn(&T) -> String) -> String {
     format!("[{}]", items.iter().map(written).collect::<Vec<_>>().join(","))
+}
+
+/// Items with a comma and a space between them.
+fn joined<T>(items: &[T], written: impl Fn(&T) -> String) -> String {
+    items.iter().map(written).collect::<Vec<_>>().join(", ")
 }
 
 /// A text of JSON.
@@ -80,6 +93,12 @@ pub struct Event {
     pub caller: u32,
     /// What it called, and what it was answered.
     pub call: Call,
+}
+
+impl fmt::Display for Event {
+    fn fmt(&self, f: &mut fmt::Formatter<'_>) -> fmt::Result {
+        write!(f, "caller {} {}", self.caller, self.call)
+    }
 }
 
 impl Event {
@@ -113,6 +132,28 @@ pub enum Call {
     Settle(u32),
     /// The end of a batch that failed.
     Fail(u32),
+}
+
+impl fmt::Display for Call {
+    fn fmt(&self, f: &mut fmt::Formatter<'_>) -> fmt::Result {
+        match self {
+            Call::Load(key, reply) => write!(f, "load {key}: {reply}"),
+            Call::LoadMany(loads) => {
+                write!(f, "loadMany [{}]", joined(loads, |(key, _)| key.to_string()))?;
+                write!(f, ": [{}]", joined(loads, |(_, reply)| reply.to_string()))
+            }
+            Call::Prime(key, Some(cell)) => write!(f, "prime {key}: primed {cell}"),
+            Call::Prime(key, None) => write!(f, "prime {key}: kept"),
+            Call::Clear(key) => write!(f, "clear {key}: done"),
+            Call::ClearAll => f.write_str("clearAll: done"),
+            Call::Dispatch(batches) => {
+                let sent: Vec<u32> = batches.clone().collect();
+                write!(f, "dispatch: sent [{}]", joined(&sent, |batch| format!("batch {batch}")))
+            }
+            Call::Settle(batch) => write!(f, "settle batch {batch}: done"),
+            Call::Fail(batch) => write!(f, "fail batch {batch}: done"),
+        }
+    }
 }
 
 impl Call {
@@ -155,6 +196,15 @@ pub enum Reply {
         /// The batch that fetches it.
         batch: u32,
     },
+}
+
+impl fmt::Display for Reply {
+    fn fmt(&self, f: &mut fmt::Formatter<'_>) -> fmt::Result {
+        match self {
+            Reply::Hit(cell) => write!(f, "hit {cell}"),
+            Reply::Fresh { cell, batch } => write!(f, "fresh {cell} in batch {batch}"),
+        }
+    }
 }
 
 impl Reply {

@@ -25,6 +25,13 @@ pub struct Key {
     pub id: String,
 }
 
+/// Its table, a stroke and its id.
+impl fmt::Display for Key {
+    fn fmt(&self, f: &mut fmt::Formatter<'_>) -> fmt::Result {
+        write!(f, "{}/{}", self.table, self.id)
+    }
+}
+
 /// What you get for a key: a value of your type `V`, or why there is none, with an error of your type `E`.
 pub type Outcome<V, E> = Result<V, Failure<E>>;
 
@@ -169,7 +176,8 @@ impl<V, E> Loader<V, E> {
         Ok(self.ticket(caller, given))
     }
 
-    /// Loads keys, each a table and an id, in their order as one call: all or none. Ticket n is of key n.
+    /// Loads keys, each a table and an id, in their order as one call: all or none. Ticket n is of key n. You may load no keys: that is a
+    /// call of the history too.
     ///
     /// # Errors
     ///
@@ -241,7 +249,8 @@ impl<V, E> Loader<V, E> {
         self.call(caller, |serial, number| serial.clear_all(number))
     }
 
-    /// Sends all that is collected, by whichever callers. You fetch the jobs, and settle or fail each; nobody else gets them.
+    /// Sends all that is collected, by whichever callers. You fetch the jobs, and settle or fail each; nobody else gets them. If there is
+    /// nothing to send, you get no job, and the history has the call.
     ///
     /// # Errors
     ///

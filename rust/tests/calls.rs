@@ -252,6 +252,20 @@ fn the_close_gives_the_history() {
         "\n[[0,1,0,0],[1,1,1,1,0,0,0],[0,1,2,0],[0,0,0,0],[1],[0],[1,0,1],[1],[1]]\n"
     );
     assert_eq!(history.to_json(), lines);
+    let printed = [
+        "0 caller 0 load user/a: fresh 0 in batch 0",
+        "1 caller 1 loadMany [user/b, user/a]: [fresh 1 in batch 1, hit 0]",
+        "2 caller 0 prime user/c: primed 2",
+        "3 caller 0 prime user/c: kept",
+        "4 caller 1 clear user/a: done",
+        "5 caller 0 clearAll: done",
+        "6 caller 1 dispatch: sent [batch 0, batch 1]",
+        "7 caller 1 settle batch 0: done",
+        "8 caller 1 fail batch 1: done",
+    ];
+    assert_eq!(history.to_string().lines().collect::<Vec<_>>(), printed);
+    let cells = r#"cells: {0: Ok("ada"), 1: Err(Batch("down")), 2: Ok("cy")} }"#;
+    assert!(format!("{history:?}").ends_with(cells), "{history:?}");
 }
 
 #[test]
