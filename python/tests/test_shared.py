@@ -597,6 +597,9 @@ class Ends(unittest.TestCase):
         self.assertFalse(waits.is_alive())
         loader.dispatch()
         self.assertEqual((third.result(), third.cancel(), first.cancelled()), ("a", False, True))
+        self.assertRaises(concurrent.futures.CancelledError, first.result)
+        read = [entry for caller in loader.close().entries for entry in caller if entry.cell is not None]
+        self.assertEqual(read, [Entry(4, 0)], "the one that was not cancelled is read")
 
     def test_what_an_executor_does_not_fetch_fails(self):
         executor = ThreadPoolExecutor(1)

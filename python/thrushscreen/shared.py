@@ -168,11 +168,11 @@ class _Load(Future[V]):
 
     def result(self, timeout: float | None = None) -> V:
         """The value, or its error is raised."""
-        return cast(V, _given(self._read(timeout)))
+        return cast(V, _given(self._loader._read(self._caller, self._cell, self._ticket, timeout, self.cancelled)))
 
     def exception(self, timeout: float | None = None) -> BaseException | None:
         """The error that `result` raises, or None."""
-        outcome = self._read(timeout)
+        outcome = self._loader._read(self._caller, self._cell, self._ticket, timeout, self.cancelled)
         return outcome.error if isinstance(outcome, _Error) else None
 
     def cancel(self) -> bool:
@@ -181,12 +181,6 @@ class _Load(Future[V]):
         if is_cancelled:
             self._loader._wake()
         return is_cancelled
-
-    def _read(self, timeout: float | None) -> object:
-        outcome = self._loader._read(self._caller, self._cell, self._ticket, timeout, self.cancelled)
-        if self.cancelled():
-            raise CancelledError
-        return outcome
 
     def _end(self, outcome: object) -> None:
         """Ends the future, unless it was cancelled. One thread alone does so."""
@@ -475,10 +469,12 @@ class ThreadedDataLoader(Generic[K, V]):
     def _read(
         self, caller: int, cell: int, ticket: int, timeout: float | None, is_cancelled: Callable[[], bool] = lambda: False
     ) -> object:
-        """Waits for the outcome of a load, and notes in the history that the caller has it."""
+        """Waits for the outcome of a load, and notes in the history that the caller has it. A load that was cancelled has none."""
         outcome = self._look(cell)
         if outcome is EMPTY:
             outcome = self._wait(cell, monotonic() + (inf if timeout is None else timeout), is_cancelled)
+        if is_cancelled():
+            raise CancelledError
         self._shared.saw(caller, ticket)
         return outcome
 
