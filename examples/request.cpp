@@ -37,7 +37,13 @@ static std::string request(dl::loader &loader, std::uint32_t caller) try {
 int main() try {
     std::random_device random;
     std::uniform_int_distribution<std::uint64_t> seed;
-    dl_serial_opening opening = {100, 1000, 5000, 2, seed(random), seed(random)}; // the most keys of a batch, cells, calls and callers
+    dl_serial_opening opening{};
+    opening.max_batch = 100;
+    opening.max_cells = 1000;
+    opening.max_calls = 5000;
+    opening.callers = 2;
+    opening.seed_low = seed(random);
+    opening.seed_high = seed(random);
     dl::loader loader(opening, {{"order", 20}});
     auto other = std::async(std::launch::async, request, std::ref(loader), 1);
     std::cout << request(loader, 0) << '\n' << other.get() << '\n';
