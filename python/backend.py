@@ -52,11 +52,15 @@ def extension(name):
     """The bytes of an extension, which shows nothing but its module."""
     crate, variable, others = EXTENSIONS[name]
     sources = CARRIED if CARRIED.exists() else HERE.parent / "c"
+    libraries = archives(crate, variable)
+    for library in libraries:
+        if not os.path.exists(library):
+            sys.exit(f"thrushscreen: there is no {library}")
     with tempfile.TemporaryDirectory() as folder:
         built = pathlib.Path(folder, f"{name}.so")
         command = [*shlex.split(os.environ.get("CC", "cc")), "-shared", "-fPIC", "-O3", "-Wall", "-Wextra", "-fvisibility=hidden", "-pthread"]
         command += [*shlex.split(os.environ.get("CFLAGS", "")), f"-I{sysconfig.get_path('include')}", f"-I{sources}"]
-        command += ["-o", built, PACKAGE / f"{name}.c", *(sources / other for other in others), *archives(crate, variable)]
+        command += ["-o", built, PACKAGE / f"{name}.c", *(sources / other for other in others), *libraries]
         subprocess.run([*command, "-Wl,--exclude-libs,ALL"], check=True)
         return built.read_bytes()
 
