@@ -21,10 +21,12 @@ MOST_FIELDS = 8
 
 
 class Found(NamedTuple):
-    """A value that a term may have, and its place in the document: for a list that a term makes, that of the term."""
+    """A value that a term may have, and its place in the document: for a list that a term makes, that of the term. The list of an
+    `each` has what its rows may be, each at a place of its own, or None if one is unknown or there is none."""
 
     value: Json
     path: Path
+    rows: list[Found] | None = None
 
 
 class Failure(NamedTuple):
@@ -64,10 +66,10 @@ def id_for(value: Json) -> str:
 
 def no_field(form: str, field: str, part: list[Found]) -> Failure:
     """Why none of a part's values has a field."""
-    value, path = part[0]
+    value, path, _ = part[0]
     fails = f'so this "{form}" always fails (NoField)'
     if isinstance(value, list):
-        right = 'Read it of one item at a time: write an "all" with a term for each.'
+        right = 'Read it of one item at a time: by an "all" with a term for each, or by an "over" from version 3 on.'
         return Failure(f"You read {shown(field)} of a list, and a list has no fields, {fails}.", right, path)
     if not isinstance(value, dict):
         return Failure(f"You read {shown(field)} of {described(value)}, {fails}.", "Read it of an object.", path)
@@ -78,7 +80,7 @@ def no_field(form: str, field: str, part: list[Found]) -> Failure:
 
 def no_key(field: str, read: list[Found]) -> Failure:
     """Why none of the values that a follow reads is an id."""
-    value, path = read[0]
+    value, path, _ = read[0]
     right = 'For a list of ids, write "each".' if isinstance(value, list) else id_for(value)
     cause = f'{shown(field)} is {described(value)} here, and {AN_ID_IS}, so this "follow" always fails (NotAKey).'
     return Failure(cause, right, path)
@@ -86,7 +88,7 @@ def no_key(field: str, read: list[Found]) -> Failure:
 
 def no_keys(field: str, read: list[Found]) -> Failure:
     """Why none of the values that an each reads is a list of ids."""
-    value, path = read[0]
+    value, path, _ = read[0]
     fails = 'so this "each" always fails'
     if not isinstance(value, list):
         right = 'For one id, write "follow".' if is_id(value) else "Write a list of ids."
@@ -101,7 +103,7 @@ def no_keys(field: str, read: list[Found]) -> Failure:
 
 def no_list(part: list[Found]) -> Failure:
     """Why an over can go through none of a part's values."""
-    value, path = part[0]
+    value, path, _ = part[0]
     fails = 'so this "over" always fails'
     if isinstance(value, list):
         return Failure(f"This is a list of {len(value):,} items here, {fails} (TooMany).", f"Write at most {MOST_ITEMS:,}.", path)
@@ -179,7 +181,14 @@ class Terms:
             return self.followed(argument, read, path)
         if read and not any(is_list_of_ids(found.value) for found in read):
             self.warn(no_keys(argument[1], read), (*path, 1))
-        return [Found([], path)]
+        return [Found([], path, self.listed(argument[2], read))]
+
+    def listed(self, table: str, read: list[Found] | None) -> list[Found] | None:
+        """What the rows of an each may be, or None if one is unknown or a list may be empty."""
+        lists = [found.value for found in read or () if is_list_of_ids(found.value)]
+        if not lists or not all(lists) or not all((table, key) in self.rows for ids in lists for key in ids):
+            return None
+        return list({row.path: row for ids in lists for key in ids for row in self.rows[table, key]}.values())
 
     def items(self, part: list[Found] | None, path: Path) -> list[Found] | None:
         """What the items of a part may be, or None if they are unknown."""
@@ -187,10 +196,10 @@ class Terms:
             self.warn(no_list(part), (*path, 0))
             return None
         lists = [found for found in part or () if is_list(found.value)]
-        # The items of a list that a term makes are unknown, and an empty list never fails.
-        if not lists or not all(found.value for found in lists):
+        # But for those of an each, the items of a list that a term makes are unknown, and an empty list never fails.
+        if not lists or not all(found.value or found.rows for found in lists):
             return None
-        return [Found(item, (*found.path, at)) for found in lists for at, item in enumerate(found.value)]
+        return [row for found in lists for row in found.rows or (Found(item, (*found.path, at)) for at, item in enumerate(found.value))]
 
     def look_up(self, table: str, path: Path) -> None:
         """Warns of a table that isn't there, if no step primes a key of it."""
@@ -209,6 +218,8 @@ class Terms:
         having = [found for found in part if isinstance(found.value, dict) and field in found.value]
         if not having:
             self.warn(no_field(form, field, part), (*path, 1))
+        # What only some have isn't known of the others.
+        if len(having) < len(part):
             return None
         return [Found(found.value[field], (*found.path, field)) for found in having]
 
