@@ -3,9 +3,9 @@
 #include <cstdint>
 #include <cstdlib>
 #include <functional>
+#include <future>
 #include <mutex>
 #include <string>
-#include <thread>
 #include <unordered_map>
 #include <vector>
 
@@ -61,12 +61,13 @@ int main(int argc, char **argv) {
     std::string word = argc > 2 ? argv[2] : "";
     Loader loader;
     if (word == "threads") {
-        std::vector<std::thread> threads;
+        std::vector<std::future<std::uint32_t>> loads;
         for (std::size_t caller = 0; caller < callers; caller++)
-            threads.emplace_back(load_each, std::ref(loader), count);
-        for (auto &thread : threads)
-            thread.join();
-        return 0;
+            loads.push_back(std::async(std::launch::async, load_each, std::ref(loader), count));
+        std::uint32_t fresh = 0;
+        for (auto &load : loads)
+            fresh += load.get();
+        return fresh != count;
     }
     std::uint32_t fresh = load_each(loader, count);
     return fresh != count || (word == "hits" && load_each(loader, count) != 0);

@@ -45,7 +45,7 @@ static PyObject *raise_code(const Shared *self, uint32_t code)
         PyErr_SetString(PyExc_RuntimeError, "the loader is stopped: it couldn't end a batch");
         return NULL;
     case DL_UNSETTLED:
-        PyErr_SetString(PyExc_RuntimeError, "a batch has not ended: wait for its loads, or dispatch() what is collected; if the history is full, there is none");
+        PyErr_SetString(PyExc_RuntimeError, "a batch has not ended: wait for its loads, or dispatch() what is collected; a full history is lost");
         return NULL;
     case DL_BAD_LIMIT:
     case DL_BAD_CALLERS:
