@@ -158,29 +158,25 @@ static CROWDS: [Crowd; 9] = [
     Crowd {
         max_batch: 1,
         loads: &[("u1", "Ada")],
-        release: Release::By(&[("dispatch", "0: u1"), ("law settle 0 u1", "Done")]),
+        release: Release::By(&[("dispatch", "done"), ("law settle 0 u1", "done")]),
         is_late: false,
     },
     Crowd {
         max_batch: 1,
         loads: &[("u1", "memory")],
-        release: Release::By(&[("dispatch", "0: u1"), ("law fail 0 u1", "Done")]),
+        release: Release::By(&[("dispatch", "done"), ("law fail 0 u1", "done")]),
         is_late: false,
     },
     Crowd {
         max_batch: 1,
         loads: &[("u1", "memory")],
-        release: Release::By(&[("dispatch", "0: u1"), ("fail 0 u1", "1 shown")]),
+        release: Release::By(&[("dispatch", "done"), ("fail 0 u1", "done")]),
         is_late: false,
     },
     Crowd {
         max_batch: 1,
         loads: &[("u1", "Ada")],
-        release: Release::By(&[
-            ("dispatch", "0: u1"),
-            ("settle 0 u1", "1 shown"),
-            ("stop", ""),
-        ]),
+        release: Release::By(&[("dispatch", "done"), ("settle 0 u1", "done"), ("stop", "")]),
         is_late: false,
     },
     Crowd {

@@ -1,56 +1,105 @@
-//! The calls of a loader, from their texts, and their answers as texts.
+//! The calls of a loader, from their texts. What they reply is in the history.
 
-ghost use Rattle.std.specs.Prelude.{◌≡◌, false, IfOk, IfSome};
+ghost use Rattle.std.specs.Prelude.{IfSome};
 ghost use Rattle.dl_desk.specs.Service.{Answers};
 ghost use Rattle.dl_loader.specs.Asks.{source_asked};
-ghost use Rattle.dl_loader.specs.Pass.{GaveTicket};
 ghost use Rattle.dl_source.specs.Fetched.{source_of};
 
 use super::player::Scene;
-use super::texts::{jobs_text, loads_text, outcome, reply_text, user, users};
+use super::texts::{user, users};
 use dl_desk::{FetchKey, Job, Keys, Outcome};
-use dl_loader::{Ask, CallFault, GiveUp, LoaderName, Pass, Settled, Ticket, laws};
+use dl_loader::{Ask, CallFault, GiveUp, LoaderName, Pass, PrimeReply, laws};
 use dl_source::{Fetched, Source, fetch_job};
-use dl_tests::{assert_is, made};
+use dl_tests::{assert_is, json};
 use std::io::Eprint;
 use std::process::Abort;
-use std::slice;
 use std::sync::Wait;
 
+/// How to make a call.
+#[derive(Clone, Copy)]
+struct Way {
+    /// By the law of one event, on the locked book, and not by its own name.
+    is_by_law: bool,
+    /// The library refuses it a growth.
+    is_refused: bool,
+}
+
 impl<'a, L: LoaderName, S: Source, R: Abort + Eprint + Wait> Scene<'a, L, S, R> {
-    /// What a call answers, by its name and its words, or why the loader rejects it.
-    pub(super) fn answer(&self, pass: &mut Pass<L>, name: &str, words: &str, by_law: bool) -> String
+    /// That the loader has made the call of this name with these words, or why it rejects it. If the call runs out of
+    /// memory by a refusal, makes it again.
+    pub(super) fn answer(
+        &self,
+        pass: &mut Pass<L>,
+        name: &str,
+        words: &str,
+        is_by_law: bool,
+    ) -> String
+        requires { Answers (S.answer self.now.source.now) L.service }
+    {
+        let refused = Way {
+            is_by_law,
+            is_refused: true,
+        };
+        let again = Way {
+            is_by_law,
+            is_refused: false,
+        };
+        let made = match self.call(pass, name, words, refused) {
+            None => self.call(pass, name, words, again),
+            made => made,
+        };
+        let text = match made.expect(self.rt, "refused nothing") {
+            Ok(()) => String::from_str(self.alloc, "done"),
+            Err(fault) => format!(in self.alloc; "{fault:?}"),
+        };
+        text.expect(self.rt, "no memory")
+    }
+
+    /// Makes the call of this name with these words. `None` if it runs out of memory by a refusal.
+    fn call(
+        &self,
+        pass: &mut Pass<L>,
+        name: &str,
+        words: &str,
+        way: Way,
+    ) -> Option<Result<(), CallFault>>
         requires { Answers (S.answer self.now.source.now) L.service }
     {
         let (rt, alloc) = (self.rt, self.alloc);
         let (first, others) = words.split_once(' ').unwrap_or((words, ""));
-        let answer = match name {
-            "load" => self.ask(pass, Ask::Load(&user(rt, alloc, first)), by_law),
-            "loadMany" => self.ask(pass, Ask::LoadMany(&users(rt, alloc, words)), by_law),
-            "prime" => {
-                let outcome = outcome(rt, alloc, others);
-                self.ask(pass, Ask::Prime(&user(rt, alloc, first), outcome), by_law)
+        match name {
+            "load" => {
+                let key = user(rt, alloc, first);
+                self.ask(pass, Ask::Load(&key), way)
             }
-            "clear" => self.ask(pass, Ask::Clear(&user(rt, alloc, first)), by_law),
-            "clearAll" => self.ask_owned(pass, Ask::ClearAll, by_law),
-            "dispatch" => self.ask_owned(pass, Ask::Dispatch, by_law),
+            "loadMany" => {
+                let keys = users(rt, alloc, words);
+                self.ask(pass, Ask::LoadMany(&keys), way)
+            }
+            "prime" => {
+                let key = user(rt, alloc, first);
+                let value = Outcome::Value(json(alloc, others).expect(rt, "no JSON"));
+                self.ask(pass, Ask::Prime(&key, value), way)
+            }
+            "clear" => {
+                let key = user(rt, alloc, first);
+                self.ask(pass, Ask::Clear(&key), way)
+            }
+            "clearAll" => self.ask_owned(pass, Ask::ClearAll, way),
+            "dispatch" => self.ask_owned(pass, Ask::Dispatch, way),
             "settle" => {
                 let fetched = self.fetch(self.job(first, others));
-                self.ask_owned(pass, Ask::Settle(fetched), by_law)
+                self.ask_owned(pass, Ask::Settle(fetched), way)
             }
             "fail" => {
                 let job = self.job(first, others);
-                self.ask_owned(pass, Ask::Fail(job, GiveUp::Memory), by_law)
+                self.ask_owned(pass, Ask::Fail(job, GiveUp::Memory), way)
             }
             "unsent" => {
                 let job = self.job(first, others);
-                self.ask_owned(pass, Ask::Fail(job, GiveUp::Unsent), by_law)
+                self.ask_owned(pass, Ask::Fail(job, GiveUp::Unsent), way)
             }
             _ => panic!(rt; "no call {name}"),
-        };
-        match answer {
-            Ok(text) => text,
-            Err(fault) => format!(in alloc; "{fault:?}").expect(rt, "no memory"),
         }
     }
 
@@ -75,187 +124,119 @@ impl<'a, L: LoaderName, S: Source, R: Abort + Eprint + Wait> Scene<'a, L, S, R> 
         &self,
         pass: &mut Pass<L>,
         ask: Ask<'a, S>,
-        by_law: bool,
-    ) -> Result<String, CallFault>
+        way: Way,
+    ) -> Option<Result<(), CallFault>>
         requires { IfSome (source_asked ask) (λ source. Answers (S.answer source) L.service) }
     {
-        self.ask(pass, ask, by_law)
+        self.ask(pass, ask, way)
     }
 
-    /// Makes a call, by the law of one event or by its own name.
-    fn ask(&self, pass: &mut Pass<L>, ask: Ask<'_, S>, by_law: bool) -> Result<String, CallFault>
+    /// Makes a call. `None` if it runs out of memory by a refusal.
+    fn ask(&self, pass: &mut Pass<L>, ask: Ask<'_, S>, way: Way) -> Option<Result<(), CallFault>>
         requires { IfSome (source_asked ask) (λ source. Answers (S.answer source) L.service) }
     {
-        if by_law {
-            return self.make_event(pass, ask);
+        let name = if way.is_by_law {
+            "laws::event"
+        } else {
+            name_of(&ask)
+        };
+        if way.is_refused {
+            self.refusal.begin();
         }
+        let made = if way.is_by_law {
+            self.make_event(pass, ask)
+        } else {
+            self.make_call(pass, ask)
+        };
+        let is_out_of_memory = matches!(made, Err(CallFault::OutOfMemory));
+        if self.refusal.is_again(self.rt, name, is_out_of_memory) {
+            None
+        } else {
+            Some(made)
+        }
+    }
+
+    /// Makes a call on the locked book. No cell refuses its outcome.
+    fn make_event(&self, pass: &mut Pass<L>, ask: Ask<'_, S>) -> Result<(), CallFault>
+        requires { IfSome (source_asked ask) (λ source. Answers (S.answer source) L.service) }
+    {
+        let mut book = self.loader.lock(self.rt);
+        match laws::event(self.alloc, self.loader, &mut *book, pass, ask) {
+            Ok((_, refused)) => {
+                assert_is!(self.rt, &refused, &0, "cells that refuse");
+                Ok(())
+            }
+            Err((fault, _)) => Err(fault),
+        }
+    }
+
+    /// Makes a call by its own name. No cell refuses its outcome.
+    fn make_call(&self, pass: &mut Pass<L>, ask: Ask<'_, S>) -> Result<(), CallFault>
+        requires { IfSome (source_asked ask) (λ source. Answers (S.answer source) L.service) }
+    {
+        let (rt, alloc, loader) = (self.rt, self.alloc, self.loader);
         match ask {
-            Ask::Load(key) => self.load(pass, key),
-            Ask::LoadMany(keys) => self.load_many(pass, keys),
+            Ask::Load(key) => {
+                drop(loader.load(rt, alloc, pass, key)?);
+                Ok(())
+            }
+            Ask::LoadMany(keys) => {
+                drop(loader.load_many(rt, alloc, pass, keys)?);
+                Ok(())
+            }
             Ask::Prime(key, outcome) => self.prime(pass, key, outcome),
-            Ask::Clear(key) => self.clear(pass, key),
-            Ask::ClearAll => self.clear_all(pass),
-            Ask::Dispatch => self.dispatch(pass),
+            Ask::Clear(key) => loader.clear(rt, alloc, pass, key),
+            Ask::ClearAll => loader.clear_all(rt, alloc, pass),
+            Ask::Dispatch => {
+                drop(loader.dispatch(rt, alloc, pass)?);
+                Ok(())
+            }
             Ask::Settle(fetched) => self.settle(pass, fetched),
             Ask::Fail(job, why) => self.fail(pass, job, why),
         }
     }
 
-    /// Makes a call on the locked book. No cell refuses its outcome.
-    fn make_event(&self, pass: &mut Pass<L>, ask: Ask<'_, S>) -> Result<String, CallFault>
-        requires { IfSome (source_asked ask) (λ source. Answers (S.answer source) L.service) }
-    {
-        let (rt, alloc, loader) = (self.rt, self.alloc, self.loader);
-        let mut book = loader.lock(rt);
-        self.refusal.begin();
-        let first = laws::event(alloc, loader, &mut *book, pass, ask);
-        let is_out_of_memory = matches!(first, Err((CallFault::OutOfMemory, _)));
-        let is_again = self.refusal.is_again(rt, "laws::event", is_out_of_memory);
-        let event = match first {
-            Err((_, ask)) if is_again => laws::event(alloc, loader, &mut *book, pass, ask),
-            first => first,
-        };
-        match event {
-            Ok((reply, refused)) => {
-                assert_is!(rt, &refused, &0, "cells that refuse");
-                Ok(reply_text(rt, alloc, &reply))
-            }
-            Err((fault, _)) => Err(fault),
+    fn prime(&self, pass: &mut Pass<L>, key: &FetchKey, outcome: Outcome) -> Result<(), CallFault> {
+        let reply = self.loader.prime(self.rt, self.alloc, pass, key, outcome)?;
+        if let PrimeReply::Primed { shown, .. } = reply {
+            assert!(self.rt; shown, "the cell refuses");
         }
+        Ok(())
     }
 
-    fn load(&self, pass: &mut Pass<L>, key: &FetchKey) -> Result<String, CallFault> {
-        let reply = self.loaded(pass, key)?.reply();
-        Ok(loads_text(self.rt, self.alloc, slice::from_ref(&reply)))
-    }
-
-    /// The ticket of a load.
-    pub(super) fn loaded(
-        &self,
-        pass: &mut Pass<L>,
-        key: &FetchKey,
-    ) -> Result<Ticket<'a, L>, CallFault>
-        ensures { IfOk result (λ ticket. GaveTicket pass.new.trace ticket false) }
-    {
-        made!(
-            self,
-            "Loader::load",
-            Err(CallFault::OutOfMemory),
-            self.loader.load(self.rt, self.alloc, pass, key)
-        )
-    }
-
-    fn load_many(&self, pass: &mut Pass<L>, keys: &[FetchKey]) -> Result<String, CallFault> {
-        let tickets = made!(
-            self,
-            "Loader::load_many",
-            Err(CallFault::OutOfMemory),
-            self.loader.load_many(self.rt, self.alloc, pass, keys)
-        );
-        let mut replies = Vec::new(self.alloc);
-        for ticket in &tickets? {
-            replies.push(ticket.reply()).expect(self.rt, "no memory");
-        }
-        Ok(loads_text(self.rt, self.alloc, &replies))
-    }
-
-    fn prime(
-        &self,
-        pass: &mut Pass<L>,
-        key: &FetchKey,
-        outcome: Outcome,
-    ) -> Result<String, CallFault> {
-        let (rt, alloc) = (self.rt, self.alloc);
-        let copy = outcome.try_copy().expect(rt, "no copy");
-        let reply = made!(
-            self,
-            "Loader::prime",
-            Err(CallFault::OutOfMemory),
-            self.loader.prime(rt, alloc, pass, key, outcome),
-            self.loader.prime(rt, alloc, pass, key, copy)
-        );
-        let reply = reply?;
-        Ok(format!(in alloc; "{reply:?}").expect(rt, "no memory"))
-    }
-
-    fn clear(&self, pass: &mut Pass<L>, key: &FetchKey) -> Result<String, CallFault> {
-        let cleared = made!(
-            self,
-            "Loader::clear",
-            Err(CallFault::OutOfMemory),
-            self.loader.clear(self.rt, self.alloc, pass, key)
-        );
-        self.done(cleared)
-    }
-
-    fn clear_all(&self, pass: &mut Pass<L>) -> Result<String, CallFault> {
-        let cleared = made!(
-            self,
-            "Loader::clear_all",
-            Err(CallFault::OutOfMemory),
-            self.loader.clear_all(self.rt, self.alloc, pass)
-        );
-        self.done(cleared)
-    }
-
-    /// The text of a call with no answer.
-    fn done(&self, made: Result<(), CallFault>) -> Result<String, CallFault> {
-        made?;
-        Ok(String::from_str(self.alloc, "done").expect(self.rt, "no memory"))
-    }
-
-    fn dispatch(&self, pass: &mut Pass<L>) -> Result<String, CallFault> {
-        let jobs = made!(
-            self,
-            "Loader::dispatch",
-            Err(CallFault::OutOfMemory),
-            self.loader.dispatch(self.rt, self.alloc, pass)
-        );
-        Ok(jobs_text(self.rt, self.alloc, &jobs?))
-    }
-
-    fn settle(&self, pass: &mut Pass<L>, fetched: Fetched<'_, S>) -> Result<String, CallFault>
+    fn settle(&self, pass: &mut Pass<L>, fetched: Fetched<'_, S>) -> Result<(), CallFault>
         requires { Answers (S.answer (source_of fetched)) L.service }
     {
-        self.refusal.begin();
-        let first = self.loader.settle(self.rt, self.alloc, pass, fetched);
-        let is_out_of_memory = matches!(first, Err((CallFault::OutOfMemory, _)));
-        let is_again = self
-            .refusal
-            .is_again(self.rt, "Loader::settle", is_out_of_memory);
-        let ended = match first {
-            Err((_, fetched)) if is_again => {
-                self.loader.settle(self.rt, self.alloc, pass, fetched)
+        match self.loader.settle(self.rt, self.alloc, pass, fetched) {
+            Ok(settled) => {
+                assert_is!(self.rt, &settled.refused, &0, "cells that refuse");
+                Ok(())
             }
-            first => first,
-        };
-        match ended {
-            Ok(settled) => Ok(self.shown(settled)),
             Err((fault, _)) => Err(fault),
         }
     }
 
-    fn fail(&self, pass: &mut Pass<L>, job: Job, why: GiveUp) -> Result<String, CallFault> {
-        self.refusal.begin();
-        let first = self.loader.fail(self.rt, self.alloc, pass, job, why);
-        let is_out_of_memory = matches!(first, Err((CallFault::OutOfMemory, _)));
-        let is_again = self
-            .refusal
-            .is_again(self.rt, "Loader::fail", is_out_of_memory);
-        let ended = match first {
-            Err((_, job)) if is_again => { self.loader.fail(self.rt, self.alloc, pass, job, why) }
-            first => first,
-        };
-        match ended {
-            Ok(settled) => Ok(self.shown(settled)),
+    fn fail(&self, pass: &mut Pass<L>, job: Job, why: GiveUp) -> Result<(), CallFault> {
+        match self.loader.fail(self.rt, self.alloc, pass, job, why) {
+            Ok(settled) => {
+                assert_is!(self.rt, &settled.refused, &0, "cells that refuse");
+                Ok(())
+            }
             Err((fault, _)) => Err(fault),
         }
     }
+}
 
-    /// The text of an end: the number of cells that show it. None refuses it.
-    fn shown(&self, settled: Settled) -> String {
-        let Settled { shown, refused } = settled;
-        assert_is!(self.rt, &refused, &0, "cells that refuse");
-        format!(in self.alloc; "{shown} shown").expect(self.rt, "no memory")
+/// The name of a call.
+fn name_of<S: Source>(ask: &Ask<'_, S>) -> &'static str {
+    match ask {
+        Ask::Load(_) => "Loader::load",
+        Ask::LoadMany(_) => "Loader::load_many",
+        Ask::Prime(_, _) => "Loader::prime",
+        Ask::Clear(_) => "Loader::clear",
+        Ask::ClearAll => "Loader::clear_all",
+        Ask::Dispatch => "Loader::dispatch",
+        Ask::Settle(_) => "Loader::settle",
+        Ask::Fail(_, _) => "Loader::fail",
     }
 }

@@ -4,16 +4,16 @@ ghost use Rattle.std.specs.Prelude.{◌≡◌, false};
 ghost use Rattle.dl_desk.specs.Service.{Answers};
 ghost use Rattle.dl_loader.specs.Pass.{GaveTicket};
 
-use super::closed_history::write_entry;
+use super::closed_history::write_entries;
 use super::step::Step;
 use super::texts::{looked_text, user};
-use dl_desk::LoadReply;
 use dl_loader::{Loader, LoaderName, Pass, Ticket, end_jobs};
 use dl_source::Source;
 use dl_tests::{Refusal, assert_is};
 use std::alloc::Global;
 use std::io::Eprint;
 use std::process::Abort;
+use std::slice;
 use std::sync::Wait;
 
 /// What calls need, and what the library refuses them, if anything. A call that runs out of memory happens again.
@@ -69,10 +69,9 @@ impl<'a, L: LoaderName, S: Source, R: Abort + Eprint + Wait> Scene<'a, L, S, R> 
 
     /// Loads a key that the loader holds, and reads its outcome.
     fn read_held(&self, pass: &mut Pass<L>, how: &str, id: &str) -> String {
-        let ticket = self.loaded(pass, &user(self.rt, self.alloc, id));
+        let key = user(self.rt, self.alloc, id);
+        let ticket = self.loader.load(self.rt, self.alloc, pass, &key);
         let mut ticket = ticket.expect(self.rt, "no ticket");
-        let (reply, cell) = (ticket.reply(), ticket.cell());
-        assert_is!(self.rt, &reply, &LoadReply::Hit(cell), "reply");
         let text = match how {
             "look" => looked_text(self.rt, self.alloc, ticket.look()),
             "wait" => self.read(pass, &mut ticket),
@@ -83,7 +82,8 @@ impl<'a, L: LoaderName, S: Source, R: Abort + Eprint + Wait> Scene<'a, L, S, R> 
                 text
             }
         };
-        format!(in self.alloc; "hit {cell}: {text}").expect(self.rt, "no memory")
+        let (reply, told) = (ticket.reply(), text.as_str());
+        format!(in self.alloc; "{reply}: {told}").expect(self.rt, "no memory")
     }
 
     /// Waits for the ticket's outcome, and the ticket shows it. If not, the ticket shows none, and the loader is
@@ -112,7 +112,7 @@ impl<'a, L: LoaderName, S: Source, R: Abort + Eprint + Wait> Scene<'a, L, S, R> 
     fn told(&self, pass: &Pass<L>) -> String {
         let mut text = String::new(self.alloc);
         for entry in pass.entries() {
-            write_entry(self.rt, &mut text, entry.kind());
+            write_entries(self.rt, &mut text, slice::from_ref(&entry.kind()));
         }
         let (calls, front) = (pass.calls(), pass.front());
         let written = write!(text, ", {calls} calls, front {front}");

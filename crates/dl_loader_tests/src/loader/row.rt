@@ -82,7 +82,7 @@ fn close<L: LoaderName, R: Abort + Eprint>(
     match closed(stage, loader, passes) {
         Ok(history) => {
             let text = history_text(stage, &history);
-            assert_is!(rt, &text.as_str(), &part.close, "close");
+            assert!(rt; text.ends_with(part.close), "{text}");
             None
         }
         Err((fault, loader, mut passes)) => {

@@ -1,9 +1,9 @@
 //! Rows of calls as data.
 //!
-//! A call is a text. Its name comes first, and then the number of a batch, ids of users, each for its key, and an
-//! outcome: `load u1`, `loadMany u1 u2`, `prime u1 error gone`, `clear u1`, `clearAll`, `dispatch`, `settle 0 u1 u2` by
-//! what the source answers, and `fail 0 u1` or `unsent 0 u1`. After the word `law` the row makes the call as a value,
-//! on the locked book.
+//! A call is a text. Its name comes first, and then the number of a batch, ids of users, each for its key, and a value:
+//! `load u1`, `loadMany u1 u2`, `prime u1 5`, `clear u1`, `clearAll`, `dispatch`, `settle 0 u1 u2` by what the source
+//! answers, and `fail 0 u1` or `unsent 0 u1`. After the word `law` the row makes the call as a value, on the locked
+//! book. If the loader makes the call, the answer is `done`: the history says what it replied.
 //!
 //! There are other texts too. `look u1`, `wait u1` and `waitWithBook u1` load a key that the loader holds and read its
 //! outcome. `hold`, with the words `end` and `stop`, and `renew u13`, with the word `see`, make several calls
@@ -29,6 +29,6 @@ pub(super) struct Part {
     pub(super) steps: &'static [Step],
     /// The number of passes that the close gets, from the first caller on.
     pub(super) passes: usize,
-    /// What the close must answer: the text of the history, or why it fails.
+    /// What the close must answer: the end of the history's text, or why it fails.
     pub(super) close: &'static str,
 }

@@ -61,21 +61,8 @@ pub(crate) const ROW: Row = Row {
     closed: Ok(&[true]),
 };
 
-static ROWS: [Row; 8] = [
+static ROWS: [Row; 5] = [
     ROW,
-    Row {
-        about: "a batch of two keys",
-        ids: &["u1", "u2"],
-        waited: BOB,
-        ..ROW
-    },
-    Row {
-        about: "a batch that breaks the source",
-        ids: &["u1", "u13"],
-        waited: "batch db down",
-        closed: Ok(&[false]),
-        ..ROW
-    },
     Row {
         about: "three batches, of which one breaks the source",
         capacity: 4,
@@ -109,18 +96,6 @@ static ROWS: [Row; 8] = [
         waited: "stopped",
         next: Err(CallFault::Stopped),
         closed: Err(CloseFault::Unsettled { batch: 1 }),
-        ..ROW
-    },
-    Row {
-        about: "a log that the last end fills",
-        most: (1, 8, 5),
-        ids: &["u1", "u2"],
-        jobs: 2,
-        end: WorkerEnd::Done { batches: 2 },
-        told: 1_234,
-        waited: BOB,
-        next: Err(CallFault::LogFull { limit: 5 }),
-        closed: Ok(&[true, true]),
         ..ROW
     },
     Row {

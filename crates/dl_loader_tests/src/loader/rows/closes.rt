@@ -5,12 +5,12 @@ use crate::loader::step::{Part, Row};
 
 /// The load of the first key, and a close, which fails.
 const BEGUN: Part = Part {
-    steps: &[(0, "load u1", "fresh 0 0")],
+    steps: &[(0, "load u1", "done")],
     passes: 1,
     close: "Unsettled { batch: 0 }",
 };
 
-static BATCHES: [Row; 4] = [
+static ROWS: [Row; 5] = [
     Row {
         about: "a close once a batch has failed",
         limits: (2, 8, 16),
@@ -18,13 +18,13 @@ static BATCHES: [Row; 4] = [
         parts: &[
             BEGUN,
             Part {
-                steps: &[(0, "dispatch", "0: u1"), (0, "fail 0 u1", "1 shown")],
+                steps: &[(0, "dispatch", "done"), (0, "fail 0 u1", "done")],
                 passes: 1,
                 close: concat!(
-                    "3 events, fails 0\n",
+                    "0 caller 0 load user/u1: fresh 0 in batch 0\n",
+                    "1 caller 0 dispatch: sent [batch 0 of [user/u1]]\n",
+                    "2 caller 0 fail batch 0 by out of memory: done\n",
                     "caller 0: 0 1 2 of [0, 1, 2]\n",
-                    "batch 0 failed: u1\n",
-                    "cell 0: memory\n"
                 ),
             },
         ],
@@ -37,9 +37,9 @@ static BATCHES: [Row; 4] = [
             BEGUN,
             Part {
                 steps: &[
-                    (0, "dispatch", "0: u1"),
-                    (0, "fail 0 u1", "1 shown"),
-                    (0, "loadMany u1", "fresh 1 1"),
+                    (0, "dispatch", "done"),
+                    (0, "fail 0 u1", "done"),
+                    (0, "loadMany u1", "done"),
                 ],
                 passes: 1,
                 close: "Unsettled { batch: 1 }",
@@ -58,62 +58,6 @@ static BATCHES: [Row; 4] = [
         callers: 1,
         parts: &[BEGUN],
     },
-];
-
-#[test]
-fn rows_of_closes(rt: HostRuntime) {
-    play_rows(&rt, rt.alloc(), &BATCHES);
-}
-
-static PASSES: [Row; 2] = [
-    // The passes are counted first, and of the batches that have not ended, sent or not, the least is named.
-    Row {
-        about: "closes that are refused by the first cause",
-        limits: (1, 8, 16),
-        callers: 2,
-        parts: &[
-            Part {
-                steps: &[(0, "load u1", "fresh 0 0"), (1, "load u2", "fresh 1 1")],
-                passes: 0,
-                close: "PassesMissing { want: 2, got: 0 }",
-            },
-            Part {
-                steps: &[(1, "dispatch", "0: u1, 1: u2")],
-                passes: 1,
-                close: "PassesMissing { want: 2, got: 1 }",
-            },
-            Part {
-                steps: &[],
-                passes: 2,
-                close: "Unsettled { batch: 0 }",
-            },
-            Part {
-                steps: &[(0, "settle 0 u1", "1 shown"), (1, "load u3", "fresh 2 2")],
-                passes: 2,
-                close: "Unsettled { batch: 1 }",
-            },
-            Part {
-                steps: &[(0, "fail 1 u2", "1 shown")],
-                passes: 2,
-                close: "Unsettled { batch: 2 }",
-            },
-            Part {
-                steps: &[(0, "dispatch", "2: u3"), (1, "settle 2 u3", "1 shown")],
-                passes: 2,
-                close: concat!(
-                    "8 events, settles 0, fails 1, settles 2\n",
-                    "caller 0: 0 3 5 6 of [0, 3, 5, 6]\n",
-                    "caller 1: 1 2 4 7 of [1, 2, 4, 7]\n",
-                    "batch 0 settled: u1\n",
-                    "batch 1 failed: u2\n",
-                    "batch 2 settled: u3\n",
-                    "cell 0: Ada\n",
-                    "cell 1: memory\n",
-                    "cell 2: {\"name\":\"Cy\"}\n"
-                ),
-            },
-        ],
-    },
     Row {
         about: "a close with as many callers as there may be",
         limits: (1, 1, 2),
@@ -127,13 +71,18 @@ static PASSES: [Row; 2] = [
             Part {
                 steps: &[],
                 passes: 32,
-                close: "2 events\ncaller 0: 0 of [0]\ncaller 31: 1 of [1]\n",
+                close: concat!(
+                    "0 caller 0 clear user/u1: done\n",
+                    "1 caller 31 clear user/u1: done\n",
+                    "caller 0: 0 of [0]\n",
+                    "caller 31: 1 of [1]\n",
+                ),
             },
         ],
     },
 ];
 
 #[test]
-fn rows_of_closes_with_passes(rt: HostRuntime) {
-    play_rows(&rt, rt.alloc(), &PASSES);
+fn rows_of_closes(rt: HostRuntime) {
+    play_rows(&rt, rt.alloc(), &ROWS);
 }
