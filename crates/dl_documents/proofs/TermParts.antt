@@ -179,7 +179,7 @@ object_at : (d : Data) (ms : Members) → Some ms ≡ as_object d
     → option_map (λ ts. named (names_of ms) (trees_of ts)) (together (parts_of (values_of ms))) ≡ assembles (parts_in d) d
 object_at d ms h = rw (object_of d ms (sym h)) (ap (λ os. option_map (λ ts. named (names_of ms) (trees_of ts)) (together os)) (parts_under_is ms))
 
-term_view-Object : (names : Vec (List ℕ) Global) (parts : Vec Term Global) → term_view (form.Object names parts) ≡ named names.items (terms_view parts.items)
+term_view-Object : (names : List (List ℕ)) (parts : Vec Term Global) → term_view (form.Object names parts) ≡ named names (terms_view parts.items)
 term_view-Object names parts = search (rules, the_lemmas)
 
 module _ (d : Data) (ms : Members) (values : List (Value Global)) (at : Some ms ≡ as_object d) (are : list_data values ≡ values_of ms) where
@@ -189,7 +189,7 @@ module _ (d : Data) (ms : Members) (values : List (Value Global)) (at : Some ms 
       ap (option_map (λ ts. named (names_of ms) (trees_of ts))) (none ∙ ap (λ ds. together (parts_of ds)) are) ∙ object_at d ms at
 
   -- names and parts make an object
-  pub members_some : (names : Vec (List ℕ) Global) (parts : Vec Term Global) → names.items ≡ names_of ms
+  pub members_some : (names : List (List ℕ)) (parts : Vec Term Global) → names ≡ names_of ms
       → Some (map term_view parts.items) ≡ together (parts_of (list_data values)) → Some (term_view (form.Object names parts)) ≡ assembles (parts_in d) d
   members_some names parts same found =
       ap Some (term_view-Object names parts ∙ ap (λ ns. named ns (terms_view parts.items)) same)

@@ -9,7 +9,7 @@ ghost use Rattle.dl_documents.specs.Inside.Trees.{tree_data, list_data};
 use crate::argument::{into_pair, into_triple, is_true, json, key};
 use crate::member::{self, in_order};
 use crate::tree::{into_items, into_members, text};
-use dl_terms::Term;
+use dl_terms::{Names, Term};
 use dl_values::{TABLE_BYTES, Text};
 use json::Value;
 use std::alloc::{AllocError, Global};
@@ -135,7 +135,8 @@ fn object(alloc: Global, argument: Value<'_>) -> Result<Option<Term>, AllocError
     let Some(members) = into_members(argument) else {
         return Ok(None);
     };
-    let (names, values) = in_order(alloc, members)?;
+    let (texts, values) = in_order(alloc, members)?;
+    let names = Names::new(alloc, texts)?;
     match read_parts(alloc, values)? {
         Some(parts) => Ok(Some(Term::Object { names, parts })),
         None => Ok(None),

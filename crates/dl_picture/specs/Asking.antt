@@ -1,5 +1,5 @@
 -- What a part of a term asked for, and what it answers.
-use Rattle.std.specs.Prelude.{◌≡◌, ℕ, ◌+◌, Option, Some, None, option_and_then, Result, Ok, Err, Vec}
+use Rattle.std.specs.Prelude.{◌≡◌, ℕ, ◌+◌, List, Option, Some, None, option_and_then, Result, Ok, Err, Vec}
 use Rattle.std.specs.Borrow.{Bor}
 use Rattle.std.specs.declared.alloc.Global.{Global}
 use Rattle.serde_json.specs.Data.{Data}
@@ -52,6 +52,6 @@ listed_as (Ok vs) = Listed.items (items_of vs.items)
 listed_as (Err f) = Listed.none f
 
 -- as a list, or as an object with these names
-abbrev pub joint_by : Option (Bor (Vec Name Global)) → Joint
+abbrev pub joint_by : Option (Bor (List Name)) → Joint
 joint_by None = listing
-joint_by (Some names) = naming names.now.items
+joint_by (Some names) = naming names.now

@@ -9,8 +9,7 @@ ghost use Rattle.dl_picture.specs.Asking.{Asks, IsNoValue, joint_by};
 ghost use Rattle.dl_picture.specs.Together.{so_far};
 
 use crate::loads::sum;
-use dl_terms::{Answer, AnswerValue, EvalFault};
-use dl_values::Text;
+use dl_terms::{Answer, AnswerValue, EvalFault, Names};
 use std::alloc::{AllocError, Global};
 
 /// How many loads a part of a term asked for, and its answer, unless it waits for a key that wasn't read.
@@ -114,11 +113,7 @@ impl Together {
     }
 
     /// What they ask for, and their list, or the object of these names. Fails if memory runs out.
-    pub(crate) fn finish(
-        self,
-        alloc: Global,
-        names: Option<&Vec<Text>>,
-    ) -> Result<Asking, AllocError>
+    pub(crate) fn finish(self, alloc: Global, names: Option<&Names>) -> Result<Asking, AllocError>
         ensures { IfOk result (Asks self.loads (option_map (joined_as (joint_by names.entry)) (so_far self (Some [])))) }
     {
         let Together {
@@ -147,7 +142,7 @@ impl Together {
 /// The list of values, or the object of these names. Fails if memory runs out.
 pub(crate) fn joined(
     alloc: Global,
-    names: Option<&Vec<Text>>,
+    names: Option<&Names>,
     values: Vec<AnswerValue>,
 ) -> Result<AnswerValue, AllocError>
     ensures { IfOk result (λ v. v ≡ joined_data (joint_by names.entry) (items_of values.items)) }

@@ -13,7 +13,7 @@ use crate::asking::{Asking, Together};
 use crate::parts::{Loading, Waiting};
 use dl_desk::{FetchKey, Outcome};
 use dl_history::History;
-use dl_terms::{Answer, AnswerValue, EvalFault, Term, loaded, pick_value};
+use dl_terms::{Answer, AnswerValue, EvalFault, Names, Term, loaded, pick_value};
 use dl_values::{KeyFault, Text};
 use indexmap::IndexMap;
 use serde_json::Value;
@@ -151,9 +151,9 @@ impl<'h> Knowledge<'h, '_> {
     ) -> Result<Asking, AllocError>
         ensures { IfOk result (AsksTarget (known_of self.now) (target_in table.now (picked field.now (answer.Value value.now)))) }
     {
-        match value.get(field.as_str()) {
+        match value.member(self.alloc, field.as_str())? {
             None => Ok(Asking::of(Answer::Fault(EvalFault::NoField))),
-            Some(id) => self.load_id(table, id),
+            Some(id) => self.load_id(table, id.value()),
         }
     }
 
@@ -181,9 +181,9 @@ impl<'h> Knowledge<'h, '_> {
         ensures { IfOk result (Asks (targets_loads (targets_in table.now (picked field.now (answer.Value value.now))))
             (targets_answer (known_of self.now) (targets_in table.now (picked field.now (answer.Value value.now))))) }
     {
-        match value.get(field.as_str()) {
+        match value.member(self.alloc, field.as_str())? {
             None => Ok(Asking::of(Answer::Fault(EvalFault::NoField))),
-            Some(ids) => self.load_list(table, ids),
+            Some(ids) => self.load_list(table, ids.value()),
         }
     }
 
@@ -244,7 +244,7 @@ impl<'h> Knowledge<'h, '_> {
     fn ask_all(
         &self,
         terms: &Vec<Term>,
-        names: Option<&Vec<Text>>,
+        names: Option<&Names>,
         item: Option<&AnswerValue>,
     ) -> Result<Asking, AllocError>
         ensures { IfOk result (Asks (all_loads_at (known_of self.now) (option_copied item.entry) (terms_view terms.now.items))

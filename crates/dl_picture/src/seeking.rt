@@ -18,8 +18,8 @@ use crate::asking::joined;
 use crate::knowledge::{Knowledge, MOST_ITEMS};
 use crate::origin::{Ending, Met, Origin};
 use dl_desk::FetchKey;
-use dl_terms::{Answer, AnswerValue, EvalFault, Term, loaded};
-use dl_values::{Json, Text};
+use dl_terms::{Answer, AnswerValue, EvalFault, Names, Term, loaded};
+use dl_values::Text;
 use serde_json::Value;
 use std::alloc::{AllocError, Global};
 
@@ -27,7 +27,7 @@ use std::alloc::{AllocError, Global};
 /// its place. Fails if memory runs out.
 fn gathered<'t>(
     alloc: Global,
-    names: Option<&Vec<Text>>,
+    names: Option<&Names>,
     endings: Vec<Ending<'t>>,
 ) -> Result<Result<AnswerValue, (usize, Origin<'t>)>, AllocError>
     ensures { IfOk result (Gathers (joint_by names.entry) endings.entry.items) }
@@ -104,12 +104,9 @@ impl Knowledge<'_, '_> {
         ensures { (t q : Tree) → answer (known_of self.now) q ≡ Some (answer.Value value) → IsOf t term.now → t ≡ pick q field.now
             → IfOk result (MayEndWith (known_of self.now) t) }
     {
-        match value.get(field.as_str()) {
+        match value.member(self.alloc, field.as_str())? {
             None => Ok(Some(Err(self.lacks(term, value)))),
-            Some(found) => {
-                let found = Json::new(self.alloc, found.clone()?)?;
-                Ok(Some(Ok(AnswerValue::row(found))))
-            }
+            Some(found) => Ok(Some(Ok(AnswerValue::row(found)))),
         }
     }
 
@@ -134,13 +131,13 @@ impl Knowledge<'_, '_> {
         ensures { (t q : Tree) → answer (known_of self.now) q ≡ Some (answer.Value value) → IsOf t term.now → t ≡ follow q field.now table.now
             → IfOk result (MayEndWith (known_of self.now) t) }
     {
-        match value.get(field.as_str()) {
+        match value.member(self.alloc, field.as_str())? {
             None => Ok(Some(Err(self.lacks(term, value)))),
-            Some(id) => match self.answer_of_id(table, id)? {
+            Some(id) => match self.answer_of_id(table, id.value())? {
                 None => Ok(None),
                 Some(Answer::Value(row)) => Ok(Some(Ok(row))),
                 Some(Answer::Fault(fault)) => {
-                    let met = Met::Field(id.clone()?);
+                    let met = Met::Field(id.into_value()?);
                     Ok(Some(Err(Origin::own(self.alloc, term, fault, met))))
                 }
             },
@@ -158,9 +155,9 @@ impl Knowledge<'_, '_> {
         ensures { (t q : Tree) → answer (known_of self.now) q ≡ Some (answer.Value value) → IsOf t term.now → t ≡ each q field.now table.now
             → IfOk result (MayEndWith (known_of self.now) t) }
     {
-        match value.get(field.as_str()) {
+        match value.member(self.alloc, field.as_str())? {
             None => Ok(Some(Err(self.lacks(term, value)))),
-            Some(ids) => self.seek_list(term, table, ids),
+            Some(ids) => self.seek_list(term, table, ids.value()),
         }
     }
 
@@ -328,7 +325,7 @@ impl Knowledge<'_, '_> {
         &self,
         term: &'t Term,
         number: usize,
-        names: Option<&Vec<Text>>,
+        names: Option<&Names>,
         endings: Option<Vec<Ending<'t>>>,
     ) -> Result<Option<Ending<'t>>, AllocError>
         requires { number ≤ 1 }
@@ -378,7 +375,7 @@ impl Knowledge<'_, '_> {
     fn seek_all<'t>(
         &self,
         term: &'t Term,
-        names: Option<&Vec<Text>>,
+        names: Option<&Names>,
         parts: &'t [Term],
         item: Option<&AnswerValue>,
     ) -> Result<Option<Ending<'t>>, AllocError>

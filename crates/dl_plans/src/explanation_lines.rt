@@ -40,7 +40,7 @@ fn push_path(alloc: Global, out: &mut String, path: &[PathStep<'_>]) -> Result<(
 fn push_part(alloc: Global, out: &mut String, step: PathStep<'_>) -> Result<(), AllocError> {
     match step.term {
         Term::Over { .. } if step.part > 0 => write!(out, "[1] at [{}]", step.part - 1),
-        Term::Object { names, .. } => match names.get(step.part) {
+        Term::Object { names, .. } => match names.as_slice().get(step.part) {
             Some(name) => push_member(alloc, out, name.as_str()),
             None => Ok(()),
         },

@@ -28,6 +28,7 @@ use Rattle.dl_values.proofs.outcome.BatchFault.TheSendSync as batch
 use Rattle.dl_history.proofs.ThreadSafety.{Json-send, Outcome-field-send}
 use Rattle.dl_terms.proofs.term.Term.TheLaws.TheKnot.{crosses as terms_cross}
 use Rattle.dl_terms.proofs.answer_value.AnswerValue.TheLaws.TheKnot.{crosses as answers_cross}
+use Rattle.dl_terms.proofs.names.Names.TheSendSync as names
 use Rattle.dl_terms.specs.contracts.answer.Answer as Answer
 use Rattle.dl_terms.specs.contracts.plan.Step as Step
 use Rattle.dl_terms.specs.contracts.term.Term as Term
@@ -35,7 +36,7 @@ use Rattle.dl_haxl.specs.contracts.step_answers.StepAnswer as StepAnswer
 use Rattle.dl_haxl.specs.contracts.step_answers.StepAnswers as StepAnswers
 
 Term-field-send : IsSend Term.the_field.row
-Term-field-send = search (terms_cross, Json-send, key.the_send, owners_cross, maps_cross, sendable) depth 40 fits 20000
+Term-field-send = search (terms_cross, Json-send, key.the_send, names.the_send, owners_cross, maps_cross, sendable) depth 40 fits 20000
 
 Step-send : IsSend Step.the_row
 Step-send = search (Term-field-send, Outcome-field-send, key.the_send, owners_cross, sendable) depth 40 fits 20000
@@ -44,7 +45,7 @@ Plan-field-send : IsSend Plan.the_field.row
 Plan-field-send = search (Step-send, owners_cross, sendable) depth 40 fits 20000
 
 Answer-field-send : IsSend Answer.the_field.row
-Answer-field-send = search (answers_cross, Json-send, maps_cross, key.the_send, batch.the_field_send, owners_cross, sendable) depth 40 fits 20000
+Answer-field-send = search (answers_cross, Json-send, maps_cross, key.the_send, names.the_send, batch.the_field_send, owners_cross, sendable) depth 40 fits 20000
 
 StepAnswer-send : IsSend StepAnswer.the_row
 StepAnswer-send = search (Answer-field-send, owners_cross, sendable) depth 40 fits 20000

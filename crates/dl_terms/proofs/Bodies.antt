@@ -1,15 +1,14 @@
 -- What a round makes of the terms of a body, for an item.
-use Rattle.std.proofs.Common.{◌≡◌, ◌∙◌, ap, sym, refl, ℕ, suc, ◌+◌, ◌<◌, ◌≤◌, Bool, true, false, nat_lt, if◌then◌else◌, List, [], ◌∷◌, ◌++◌, length, Option}
+use Rattle.std.proofs.Common.{◌≡◌, ◌∙◌, ap, sym, refl, ℕ, suc, ◌<◌, ◌≤◌, Bool, true, false, nat_lt, if◌then◌else◌, List, [], ◌∷◌, ◌++◌, length, Option}
 use Rattle.std.proofs.Common.{Some, None}
 use Rattle.std.specs.Prelude.{Box, Result, Ok, Err, IfOk, OnOk}
 use Rattle.std.specs.declared.alloc.Global.{Global}
 use Rattle.std.specs.Option.{option_map, option_and_then}
 use Rattle.std.specs.List.{AllZip}
 use Rattle.std.proofs.lemmas.List.Sums.{fold-append}
-use Rattle.std.proofs.lemmas.List.{append-nil}
 use Rattle.std.proofs.lemmas.Bool.{lt-ltb, le-ltb}
 use Rattle.indexmap.specs.IndexSet.{insert_key, insert_all}
-use Rattle.serde_json.specs.Data.{Data, array, Items, no_items, item}
+use Rattle.serde_json.specs.Data.{Data, Items}
 use Rattle.serde_json.specs.Find.{as_array}
 use Rattle.serde_json.specs.View.{items_of}
 use Rattle.dl_values.specs.Key.{Key, key_eq}
@@ -24,13 +23,12 @@ use Rattle.dl_terms.specs.declared.node.Node.{Node}
 use Rattle.dl_terms.specs.declared.term.Term.{Term}
 use Rattle.dl_terms.specs.Tree.{Tree, ended, over, Trees}
 use Rattle.dl_terms.specs.View.{term_view, terms_view}
-use Rattle.dl_terms.specs.TermAnswers.{Joint, listing, naming, joined, gathered, picked, waits_after, target_in, target_answer, target_waits, targets_in}
+use Rattle.dl_terms.specs.TermAnswers.{Joint, listing, naming, picked, waits_after, target_in, target_answer, target_waits, targets_in}
 use Rattle.dl_terms.specs.TermAnswers.{targets_answer, targets_waits, most_items, Listed, listed, list_items, few_items, items_count, copies_answer, copies_wait}
 use Rattle.dl_terms.specs.TermAnswers.{copy_answers, copy_waits, answer, waits, answer_at, answers_at, waits_at, all_wait_at}
 use Rattle.dl_terms.specs.Node.{in_frame, joined_tree, node_view, nodes_view, result_of}
-use Rattle.dl_terms.specs.Reduction.{Stands, Reduces}
-use Rattle.dl_terms.specs.Rounds.{KnowsMore}
-use Rattle.dl_terms.specs.Inside.Exploration.{StandAll, AllStandAt, CopiesStand, IsSettled, JoinsOn, StandsAt, frame_waits}
+use Rattle.dl_terms.specs.Reduction.{Reduces}
+use Rattle.dl_terms.specs.Inside.Exploration.{AllStandAt, CopiesStand, IsSettled, JoinsOn, StandsAt, frame_waits}
 use Rattle.dl_terms.proofs.Frames.{no_answer}
 use Rattle.dl_terms.proofs.Reductions.{joins_on, stand_more}
 

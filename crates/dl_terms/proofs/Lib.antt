@@ -11,6 +11,7 @@ pub mod TermViews
 pub mod AskedKeys
 pub mod Reductions
 pub mod Bodies
+mod NamedParts
 mod WholeNumbers
 mod PartAnswers
 mod AnswerParts

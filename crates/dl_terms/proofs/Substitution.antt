@@ -1,11 +1,10 @@
 -- A body with an item answers and waits as the tree with the item in its place.
-use Rattle.std.proofs.Common.{◌≡◌, ap, refl, ◌+◌, List, ◌++◌, Option, Some, None}
-use Rattle.std.specs.Prelude.{ℕ, max}
+use Rattle.std.proofs.Common.{◌≡◌, ap, refl, ◌+◌, ◌++◌, Option, Some}
+use Rattle.std.specs.Prelude.{max}
 use Rattle.std.specs.Option.{option_map, option_and_then}
 use Rattle.serde_json.specs.Data.{Data, Items, no_items, item}
 use Rattle.dl_values.specs.Key.{Key}
 use Rattle.dl_values.specs.declared.outcome.Outcome.{Outcome}
-use Rattle.dl_terms.specs.declared.answer.Answer.{Answer}
 use Rattle.dl_terms.specs.Tree.{Tree, ended, load, pick, follow, each, all, over, the_item, named, Trees, no_trees, tree, depth_of, depth_of_all, height_of}
 use Rattle.dl_terms.specs.Tree.{height_of_all, with_item, with_item_all, copies}
 use Rattle.dl_terms.specs.TermAnswers.{picked, gathered, assembled, both, waits_after, target_in, target_answer, target_waits, targets_in, targets_answer}

@@ -30,7 +30,7 @@ term_view-Over part body = search (rules, the_lemmas)
 pub term_view-Item : term_view form.Item ≡ the_item
 term_view-Item = search (rules, the_lemmas)
 
-pub term_view-Object : (names : Vec Name Global) (v : Vec Term Global) → term_view (form.Object names v) ≡ named names.items (terms_view v.items)
+pub term_view-Object : (names : List Name) (v : Vec Term Global) → term_view (form.Object names v) ≡ named names (terms_view v.items)
 term_view-Object names v = search (rules, the_lemmas)
 
 -- ---- one step of a loop that takes the frames off

@@ -1,4 +1,5 @@
 pub mod Joined
+pub mod Named
 pub mod Tree
 pub mod AnswerValue
 pub mod AnswerDepth

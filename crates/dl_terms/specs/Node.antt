@@ -26,7 +26,7 @@ framed (f ∷ fs) t = in_frame f (framed fs t)
 
 abbrev pub joint_of : Join → Joint
 joint_of way.List = listing
-joint_of (way.Object names) = naming names.items
+joint_of (way.Object names) = naming names
 
 -- trees joined to one
 abbrev pub joined_tree : Joint → Trees → Tree

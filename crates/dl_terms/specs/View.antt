@@ -20,7 +20,7 @@ term_step (Term-F.Each p field table) = each p.value field table
 term_step (Term-F.All v) = all (trees_of v.items)
 term_step (Term-F.Over p body) = over p.value body.value
 term_step Term-F.Item = the_item
-term_step (Term-F.Object names v) = named names.items (trees_of v.items)
+term_step (Term-F.Object names v) = named names (trees_of v.items)
 
 abbrev pub term_view : Term → Tree
 term_view = fold-Term Tree term_step

@@ -1,12 +1,16 @@
 //! The values that answers give.
 
-ghost use Rattle.std.specs.Prelude.{◌≡◌, ◌++◌, false, IfOk, IfSome, OnOk, map, option_map, slice_get, string_bytes};
+ghost use Rattle.std.specs.Prelude.{◌≡◌, ◌++◌, false, IfOk, OnOk, length, map, option_map, slice_get, string_bytes};
 ghost use Rattle.serde_json.specs.Data.{array, object};
-ghost use Rattle.serde_json.specs.Find.{as_array, get};
+ghost use Rattle.serde_json.specs.Find.{as_array, get, get_member};
 ghost use Rattle.serde_json.specs.View.{view, items_of, items_view, members_view};
 ghost use Rattle.serde_json.specs.Written.{has_float, items_have_float, members_have_float, compact_text};
+ghost use Rattle.dl_terms.specs.Inside.Member.{member_data, IsWhole};
 ghost use Rattle.dl_terms.specs.Joined.{members_with, put_named};
+ghost use Rattle.dl_terms.specs.Named.{zipped};
 
+use crate::member::Member;
+use crate::names::Names;
 use dl_values::{Json, Text};
 use serde_json::{Map, Value};
 use std::alloc::{AllocError, Global};
@@ -28,6 +32,11 @@ enum Shape {
     Row(Json),
     /// The list of these values.
     List(Vec<AnswerValue>),
+    /// The object of these values under these names, which ascend and are as many.
+    Object {
+        names: Names,
+        values: Vec<AnswerValue>,
+    },
 }
 
 impl Drop for AnswerValue {
@@ -44,6 +53,10 @@ impl Drop for Shape {
         match self {
             Shape::Row(row) => drop(row),
             Shape::List(values) => drop(values),
+            Shape::Object { names, values } => {
+                drop(names);
+                drop(values);
+            }
         }
     }
 }
@@ -61,20 +74,7 @@ impl Shape {
         match self {
             Shape::Row(row) => row_items(alloc, &row),
             Shape::List(values) => Ok(Some(values)),
-        }
-    }
-
-    /// The tree, moved out of a row that nothing else shares, and else a copy.
-    ///
-    /// # Errors
-    /// `AllocError` if memory runs out.
-    fn into_tree(self, alloc: Global) -> Result<Value, AllocError>
-        ensures tree { IfOk result (λ v. view v ≡ tree_of self) }
-        ensures whole { IfOk result (λ v. has_float (view v) ≡ false) }
-    {
-        match self {
-            Shape::Row(row) => row_tree(row),
-            Shape::List(values) => Ok(Value::Array(copies(alloc, &values)?)),
+            Shape::Object { .. } => Ok(None),
         }
     }
 }
@@ -91,11 +91,16 @@ impl Model for AnswerValue {
 
     ghost view = { λ v. tree_of v.shape };
 
+    ghost use Rattle.std.specs.Prelude.{◌≡◌, true};
+    ghost use Rattle.dl_terms.specs.AnswerValue.{is_in_form};
+
+    ghost invariant = { λ v. is_in_form v.shape ≡ true };
+
     ghost size = { depth };
 
     ghost use Rattle.dl_terms.specs.AnswerDepth.{parts_below};
 
-    ghost size_decreases = { λ v h. parts_below v.shape };
+    ghost size_decreases = { λ v h. parts_below v.shape h };
 }
 
 impl AnswerValue {
@@ -118,20 +123,24 @@ impl AnswerValue {
     }
 
     /// The object of these values under these names, in order. Of values with the same name the first counts, and a
-    /// value without a name isn't there.
+    /// value without a name isn't there. It shares the names if they ascend.
     ///
     /// # Errors
-    /// `AllocError` if memory runs out.
+    /// `AllocError` if memory runs out, or if a reference count would overflow.
     pub fn object(
         alloc: Global,
-        names: &Vec<Text>,
+        names: &Names,
         values: Vec<AnswerValue>,
     ) -> Result<AnswerValue, AllocError>
-        ensures { IfOk result (λ v. v ≡ object (members_with names.now.items (items_of values.items))) }
+        ensures { IfOk result (λ v. v ≡ object (members_with names.now (items_of values.items))) }
     {
-        let members = members_of(alloc, names, values)?;
-        let row = Json::new(alloc, Value::Object(members))?;
-        Ok(AnswerValue::row(row))
+        if names.are_ascending() && names.as_slice().len() == values.len() {
+            let names = names.try_copy()?;
+            let shape = Shape::Object { names, values };
+            return Ok(AnswerValue { shape });
+        }
+        let row = object_of(alloc, names, copies(alloc, &values)?)?;
+        Ok(AnswerValue::row(Json::new(alloc, row)?))
     }
 
     /// The items, if the value is a list.
@@ -145,26 +154,26 @@ impl AnswerValue {
         shape.into_items(alloc)
     }
 
-    /// The tree, moved out of a row that nothing else shares, and else a copy.
+    /// The member of this name, if the value is an object that has one. A list has none. It is a copy, unless it is one
+    /// of the values that the object was made of: such a row it shares.
     ///
     /// # Errors
-    /// `AllocError` if memory runs out.
-    fn into_tree(self, alloc: Global) -> Result<Value, AllocError>
-        ensures tree { IfOk result (λ v. view v ≡ self) }
-        ensures whole { IfOk result (λ v. has_float (view v) ≡ false) }
+    /// `AllocError` if memory runs out, or if a reference count would overflow.
+    pub fn member(&self, alloc: Global, name: &str) -> Result<Option<Json>, AllocError>
+        ensures { IfOk result (λ o. o ≡ get name.now self.now) }
     {
-        let AnswerValue { shape } = self;
-        shape.into_tree(alloc)
+        self.get(alloc, name)?.into_json(alloc)
     }
 
-    /// The member of this name, if the value is an object that has one. A list has none.
-    pub fn get(&self, name: &str) -> Option<&Value>
-        ensures member { option_map (λ v. view v.now) result ≡ get name.now self.now }
-        ensures whole { IfSome result (λ v. has_float (view v.now) ≡ false) }
+    /// The member of this name, lent by a row. Fails if memory runs out, or if a reference count would overflow.
+    pub(crate) fn get(&self, alloc: Global, name: &str) -> Result<Member<'_>, AllocError>
+        ensures member { IfOk result (λ m. member_data m ≡ get name.now self.now) }
+        ensures whole { IfOk result (λ m. IsWhole m) }
     {
         match &self.shape {
-            Shape::Row(row) => row.value().get(name),
-            Shape::List(_) => None,
+            Shape::Row(row) => Ok(row_member(row, name)),
+            Shape::List(_) => Ok(Member::Missing),
+            Shape::Object { names, values } => object_member(alloc, names, values, name),
         }
     }
 
@@ -172,7 +181,7 @@ impl AnswerValue {
     fn is_primitive(&self) -> bool {
         match &self.shape {
             Shape::Row(row) => !matches!(row.value(), Value::Array(_) | Value::Object(_)),
-            Shape::List(_) => false,
+            Shape::List(_) | Shape::Object { .. } => false,
         }
     }
 
@@ -186,6 +195,9 @@ impl AnswerValue {
         match &self.shape {
             Shape::Row(row) => row.try_copy(),
             Shape::List(values) => Json::new(alloc, Value::Array(copies(alloc, values)?)),
+            Shape::Object { names, values } => {
+                Json::new(alloc, object_of(alloc, names, copies(alloc, values)?)?)
+            }
         }
     }
 
@@ -198,13 +210,44 @@ impl AnswerValue {
     {
         match &self.shape {
             Shape::Row(row) => row.to_text(alloc),
-            Shape::List(values) => {
+            Shape::List(_) | Shape::Object { .. } => {
                 let mut text = String::new(alloc);
-                push_list(alloc, values, &mut text)?;
+                push_value(alloc, self, &mut text)?;
                 Ok(text)
             }
         }
     }
+}
+
+/// The member of a row that has this name.
+fn row_member<'v>(row: &'v Json, name: &str) -> Member<'v>
+    ensures member { member_data result ≡ get name.now row.now }
+    ensures whole { IsWhole result }
+{
+    match row.value().get(name) {
+        None => Member::Missing,
+        Some(value) => Member::Lent(value),
+    }
+}
+
+/// The value of an object that has this name.
+fn object_member<'v>(
+    alloc: Global,
+    names: &Names,
+    values: &'v Vec<AnswerValue>,
+    name: &str,
+) -> Result<Member<'v>, AllocError>
+    requires { length names.now ≡ length values.now.items }
+    ensures member { IfOk result (λ m. member_data m ≡ get_member name.now (zipped names.now values.now.items)) }
+    ensures whole { IfOk result (λ m. IsWhole m) }
+{
+    let names = names.as_slice();
+    for (place, value) in values.iter().enumerate() {
+        if name == names[place].as_str() {
+            return Ok(Member::Own(value.to_json(alloc)?));
+        }
+    }
+    Ok(Member::Missing)
 }
 
 /// The items of a row, each as a row of its own, if the row is a list.
@@ -229,13 +272,24 @@ fn rows_of(alloc: Global, items: &Vec<Value>) -> Result<Vec<AnswerValue>, AllocE
     Ok(rows)
 }
 
+/// The object of these values under these names.
+fn object_of(alloc: Global, names: &Names, values: Vec<Value>) -> Result<Value, AllocError>
+    requires { items_have_float (items_view values.items) ≡ false }
+    ensures tree { IfOk result (λ v. view v ≡ object (members_with names.now (items_view values.items))) }
+    ensures whole { IfOk result (λ v. has_float (view v) ≡ false) }
+{
+    let members = members_of(alloc, names.as_slice(), values)?;
+    Ok(Value::Object(members))
+}
+
 /// The members with these names and values.
 fn members_of(
     alloc: Global,
-    names: &Vec<Text>,
-    values: Vec<AnswerValue>,
+    names: &[Text],
+    values: Vec<Value>,
 ) -> Result<Map<String, Value>, AllocError>
-    ensures members { IfOk result (λ m. members_view m.entries ≡ members_with names.now.items (items_of values.items)) }
+    requires { items_have_float (items_view values.items) ≡ false }
+    ensures members { IfOk result (λ m. members_view m.entries ≡ members_with names.now (items_view values.items)) }
     ensures whole { IfOk result (λ m. members_have_float (members_view m.entries) ≡ false) }
 {
     let mut values = values;
@@ -249,13 +303,14 @@ fn members_of(
 /// Puts a value at the name in this place, if there is one.
 fn put_at(
     alloc: Global,
-    names: &Vec<Text>,
+    names: &[Text],
     place: usize,
-    value: AnswerValue,
+    value: Value,
     members: &mut Map<String, Value>,
 ) -> Result<(), AllocError>
+    requires { has_float (view value) ≡ false }
     ensures put { OnOk result (members_view members.new.entries
-        ≡ put_named (slice_get names.now.items place) value (members_view members.old.entries)) }
+        ≡ put_named (slice_get names.now place) (view value) (members_view members.old.entries)) }
     ensures whole { OnOk result
         (members_have_float (members_view members.old.entries) ≡ false → members_have_float (members_view members.new.entries) ≡ false) }
 {
@@ -263,19 +318,8 @@ fn put_at(
         return Ok(());
     };
     let name = String::from_str(alloc, name.as_str())?;
-    let value = value.into_tree(alloc)?;
     drop(members.insert(name, value)?);
     Ok(())
-}
-
-/// The tree of a row, moved out of it if nothing else shares it.
-fn row_tree(row: Json) -> Result<Value, AllocError>
-    ensures tree { IfOk result (λ v. view v ≡ row) }
-    ensures whole { IfOk result (λ v. has_float (view v) ≡ false) }
-{
-    // Its clause says that no number is a float.
-    let _ = row.value();
-    row.into_value()
 }
 
 /// Appends the text of a value.
@@ -289,7 +333,32 @@ fn push_value(alloc: Global, value: &AnswerValue, text: &mut String) -> Result<(
             text.push_str(row.as_str())
         }
         Shape::List(values) => push_list(alloc, values, text),
+        Shape::Object { names, values } => push_object(alloc, names, values, text),
     }
+}
+
+#[cycle(writing)]
+fn push_object(
+    alloc: Global,
+    names: &Names,
+    values: &Vec<AnswerValue>,
+    text: &mut String,
+) -> Result<(), AllocError>
+    requires { length names.now ≡ length values.now.items }
+    ensures { OnOk result (string_bytes text.new
+        ≡ string_bytes text.old ++ compact_text (object (zipped names.now values.now.items))) }
+{
+    let labels = names.labels();
+    text.push_str("{")?;
+    let mut before = "";
+    for (place, value) in values.iter().enumerate() {
+        text.push_str(before)?;
+        text.push_str(labels[place].as_str())?;
+        push_value(alloc, value, text)?;
+        before = ",";
+    }
+    text.push_str("}")?;
+    Ok(())
 }
 
 #[cycle(writing)]
@@ -332,6 +401,7 @@ fn copy(alloc: Global, value: &AnswerValue) -> Result<Value, AllocError>
     match &value.shape {
         Shape::Row(row) => row.value().clone(),
         Shape::List(values) => Ok(Value::Array(copies(alloc, values)?)),
+        Shape::Object { names, values } => object_of(alloc, names, copies(alloc, values)?),
     }
 }
 
@@ -366,6 +436,7 @@ fn show<W: Write>(value: &AnswerValue, f: &mut fmt::Formatter<W>) -> fmt::Result
     match &value.shape {
         Shape::Row(row) => write!(f, "{}", row.value()),
         Shape::List(values) => show_list(values, f),
+        Shape::Object { names, values } => show_object(names, values, f),
     }
 }
 
@@ -379,4 +450,24 @@ fn show_list<W: Write>(values: &Vec<AnswerValue>, f: &mut fmt::Formatter<W>) -> 
         before = ",";
     }
     f.write_str("]")
+}
+
+#[cycle(showing)]
+fn show_object<W: Write>(
+    names: &Names,
+    values: &Vec<AnswerValue>,
+    f: &mut fmt::Formatter<W>,
+) -> fmt::Result
+    requires { length names.now ≡ length values.now.items }
+{
+    let labels = names.labels();
+    f.write_str("{")?;
+    let mut before = "";
+    for (place, value) in values.iter().enumerate() {
+        f.write_str(before)?;
+        f.write_str(labels[place].as_str())?;
+        show(value, f)?;
+        before = ",";
+    }
+    f.write_str("}")
 }

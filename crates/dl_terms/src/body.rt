@@ -20,7 +20,7 @@ use crate::field::{MOST_ITEMS, each, follow, pick_value};
 use crate::joining::put_together;
 use crate::node::{Frame, Join, Node};
 use crate::target::load;
-use crate::term::{Term, boxed_copy, copy_names};
+use crate::term::{Term, boxed_copy};
 use std::alloc::{AllocError, Global};
 
 /// What comes of a part's answer in a frame.
@@ -144,8 +144,8 @@ fn enter(
         }
         Term::All(parts) => enter_parts(alloc, parts, Join::List, item, asked),
         Term::Object { names, parts } => {
-            let names = copy_names(alloc, names)?;
-            enter_parts(alloc, parts, Join::Object(names), item, asked)
+            let by = Join::Object(names.try_copy()?);
+            enter_parts(alloc, parts, by, item, asked)
         }
     }
 }

@@ -16,7 +16,7 @@ use crate::asked::Asked;
 use crate::joining::put_together;
 use crate::node::{Join, Node};
 use crate::target::{load_id, load_ids};
-use dl_values::{Json, Text};
+use dl_values::Text;
 use serde_json::Value;
 use std::alloc::{AllocError, Global};
 
@@ -26,16 +26,13 @@ pub(crate) const MOST_ITEMS: usize = 1_024;
 /// The field of a value, or why it has none.
 ///
 /// # Errors
-/// `AllocError` if memory runs out.
+/// `AllocError` if memory runs out, or if a reference count would overflow.
 pub fn pick_value(alloc: Global, value: &AnswerValue, field: &Text) -> Result<Answer, AllocError>
     ensures { IfOk result (λ a. a ≡ picked field.now (answer.Value value.now)) }
 {
-    match value.get(field.as_str()) {
+    match value.member(alloc, field.as_str())? {
         None => Ok(Answer::Fault(EvalFault::NoField)),
-        Some(found) => {
-            let part = Json::new(alloc, found.clone()?)?;
-            Ok(Answer::Value(AnswerValue::row(part)))
-        }
+        Some(part) => Ok(Answer::Value(AnswerValue::row(part))),
     }
 }
 
@@ -53,7 +50,8 @@ pub(crate) fn follow(
         (target_waits (known_of asked.old) (target_in table.now (picked field.now (answer.Value value.now))))) }
     ensures pairs { OnOk result (pairs_of asked.new ≡ pairs_of asked.old) }
 {
-    match value.get(field.as_str()) {
+    let member = value.get(alloc, field.as_str())?;
+    match member.value() {
         None => Ok(Node::Done(Answer::Fault(EvalFault::NoField))),
         Some(id) => load_id(alloc, table, id, asked),
     }
@@ -73,7 +71,8 @@ pub(crate) fn each(
         (targets_waits (known_of asked.old) (targets_in table.now (picked field.now (answer.Value value.now))))) }
     ensures pairs { OnOk result (pairs_of asked.new ≡ pairs_of asked.old) }
 {
-    match value.get(field.as_str()) {
+    let member = value.get(alloc, field.as_str())?;
+    match member.value() {
         None => Ok(Node::Done(Answer::Fault(EvalFault::NoField))),
         Some(ids) => load_list(alloc, table, ids, asked),
     }

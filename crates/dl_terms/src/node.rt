@@ -6,6 +6,7 @@ ghost use Rattle.dl_terms.specs.Node.{framed, node_view, nodes_view, result_of};
 
 use crate::answer::{Answer, EvalFault};
 use crate::answer_value::AnswerValue;
+use crate::names::Names;
 use crate::term::Term;
 use dl_values::{FetchKey, Text};
 use std::alloc::{AllocError, Global};
@@ -33,7 +34,7 @@ pub enum Join {
     /// As a list.
     List,
     /// As an object, with these names.
-    Object(Vec<Text>),
+    Object(Names),
 }
 
 /// What to make of the answer of a part.

@@ -4,6 +4,7 @@ ghost use Rattle.std.specs.Prelude.{◌≡◌, ◌-◌, ◌^◌, min, true, IfOk
 ghost use Rattle.dl_terms.specs.Tree.{depth_of, depth_of_all, height_of, height_of_all, the_item};
 ghost use Rattle.dl_terms.specs.View.{term_view, terms_view};
 
+use crate::names::Names;
 use dl_values::{FetchKey, Json, Text};
 use std::alloc::{AllocError, Global};
 
@@ -63,7 +64,7 @@ pub enum Term {
     /// The object of the parts' values. Give it a name for each part, in order: of parts with the same name the first
     /// counts.
     Object {
-        names: Vec<Text>,
+        names: Names,
         parts: Vec<Term>,
     },
 }
@@ -175,7 +176,7 @@ fn copy_of(alloc: Global, term: &Term) -> Result<Term, AllocError>
             Ok(Term::Over { part, body })
         }
         Term::Object { names, parts } => {
-            let names = copy_names(alloc, names)?;
+            let names = names.try_copy()?;
             let parts = copies_of(alloc, parts)?;
             Ok(Term::Object { names, parts })
         }
@@ -200,20 +201,6 @@ fn copies_of(alloc: Global, terms: &Vec<Term>) -> Result<Vec<Term>, AllocError>
     let mut copies = Vec::with_capacity(alloc, terms.len())?;
     for term in terms {
         copies.push(copy_of(alloc, term)?)?;
-    }
-    Ok(copies)
-}
-
-/// The same names, with memory of their own.
-///
-/// # Errors
-/// `AllocError` if memory runs out.
-pub(crate) fn copy_names(alloc: Global, names: &Vec<Text>) -> Result<Vec<Text>, AllocError>
-    ensures { IfOk result (λ ns. ns.items ≡ names.now.items) }
-{
-    let mut copies = Vec::with_capacity(alloc, names.len())?;
-    for name in names {
-        copies.push(name.try_copy()?)?;
     }
     Ok(copies)
 }

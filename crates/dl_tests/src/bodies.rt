@@ -2,7 +2,7 @@
 
 use crate::{answer_text, assert_is, json};
 use dl_desk::Text;
-use dl_terms::{Asked, Term, explore, unexplored};
+use dl_terms::{Asked, Names, Term, explore, unexplored};
 use std::alloc::Global;
 use std::hash::RandomState;
 use std::io::Eprint;
@@ -32,6 +32,7 @@ fn twice<R: Abort + Eprint>(rt: &R, alloc: Global, name: &str) -> Term {
     let name = Text::new(alloc, name).expect(rt, "no memory");
     let again = name.try_copy().expect(rt, "no memory");
     let names = vec![in alloc; name, again].expect(rt, "no memory");
+    let names = Names::new(alloc, names).expect(rt, "no memory");
     Term::Object { names, parts }
 }
 

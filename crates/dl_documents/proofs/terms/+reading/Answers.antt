@@ -65,8 +65,11 @@ over-returns t c =
     over_some (tree_data c.args.argument) _ _ c.in_ok-part.field-0 c.in-Some-2.part c.in-Some.ensures c.in_ok-part.ensures c.in-Some-2.is
     c.in_ok-body.field-0 c.in_ok-body.ensures c.in-Some-3.body c.in-Some-3.is
 
+pub object-returns-in_err-texts : goal.object-returns-in_err-texts
+object-returns-in_err-texts t c = IfOk-from_err _ _ c.from_residual.ensures.0
+
 pub object-returns-in_err-names : goal.object-returns-in_err-names
-object-returns-in_err-names t c = IfOk-from_err _ _ c.from_residual.ensures.0
+object-returns-in_err-names t c = IfOk-from_err _ _ c.from_residual-in_err-names.ensures.0
 
 pub object-returns-in_err-parts : goal.object-returns-in_err-parts
 object-returns-in_err-parts t c = IfOk-from_err _ _ c.from_residual-in_err-parts.ensures.0
@@ -76,17 +79,17 @@ object-returns-in_default t c = no_object _ c.in_default.ensures
 
 pub object-read_parts-requires : goal.object-read_parts-requires
 object-read_parts-requires t c =
-    (omega (arith, values_lower (tree_data c.args.argument) _ c.in_ok-names.values.items c.in-Some.ensures c.in_ok-names.ensures.values), tt)
+    (omega (arith, values_lower (tree_data c.args.argument) _ c.in_ok-texts.values.items c.in-Some.ensures c.in_ok-texts.ensures.values), tt)
 
 pub object-returns-in-None : goal.object-returns-in-None
 object-returns-in-None t c =
-    members_none (tree_data c.args.argument) _ c.in_ok-names.values.items c.in-Some.ensures c.in_ok-names.ensures.values
+    members_none (tree_data c.args.argument) _ c.in_ok-texts.values.items c.in-Some.ensures c.in_ok-texts.ensures.values
     (sym (ap viewed c.in-None.is) ∙ c.in_ok-parts.ensures)
 
 pub object-returns-in-Some-2 : goal.object-returns-in-Some-2
 object-returns-in-Some-2 t c =
-    members_some (tree_data c.args.argument) _ c.in_ok-names.values.items c.in-Some.ensures c.in_ok-names.ensures.values c.in_ok-names.names c.in-Some-2.parts
-    c.in_ok-names.ensures.names (sym (ap viewed c.in-Some-2.is) ∙ c.in_ok-parts.ensures)
+    members_some (tree_data c.args.argument) _ c.in_ok-texts.values.items c.in-Some.ensures c.in_ok-texts.ensures.values c.in_ok-names.names c.in-Some-2.parts
+    (c.in_ok-names.ensures ∙ c.in_ok-texts.ensures.names) (sym (ap viewed c.in-Some-2.is) ∙ c.in_ok-parts.ensures)
 
 pub all-read_parts-requires : goal.all-read_parts-requires
 all-read_parts-requires t c = (omega (arith, items_lower (tree_data c.args.argument) c.in-Some.items.items c.in-Some.ensures), tt)

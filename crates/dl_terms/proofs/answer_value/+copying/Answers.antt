@@ -1,7 +1,7 @@
 use Rattle.std.proofs.Common.{◌∙◌, ap, arith}
 use Rattle.serde_json.specs.View.{items_view}
 use Rattle.serde_json.specs.Written.{items_have_float}
-use Rattle.dl_terms.proofs.AnswerParts.{copied_next, list_below}
+use Rattle.dl_terms.proofs.AnswerParts.{copied_next, list_below, object_below}
 use Rattle.dl_terms.proofs.WholeNumbers.{items_whole}
 use Rattle.dl_terms.proofs.answer_value.+copying.Goals as goal
 
@@ -20,4 +20,10 @@ copies-loop-value-preserved t c =
 pub copy-copies-requires : goal.copy-copies-requires
 copy-copies-requires t c =
     let below = list_below c.value.inside.shape c.in-List.values c.args.value.now c.in-List.is c.value.view_is in
+    (omega (arith, c.decreases, below), tt)
+
+pub copy-copies-requires-in-Object : goal.copy-copies-requires-in-Object
+copy-copies-requires-in-Object t c =
+    let below =
+    object_below c.value.inside.shape c.in-Object.names c.in-Object.values c.args.value.now c.in-Object.is c.value.invariant c.value.view_is in
     (omega (arith, c.decreases, below), tt)

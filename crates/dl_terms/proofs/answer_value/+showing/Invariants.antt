@@ -5,3 +5,6 @@ use Rattle.dl_terms.proofs.answer_value.+showing.Given as goal
 
 abbrev pub invariant-show_list-loop-value : goal.invariant-show_list-loop-value
 invariant-show_list-loop-value g l = shadow (Utf8 l.before)
+
+abbrev pub invariant-show_object-loop-place : goal.invariant-show_object-loop-place
+invariant-show_object-loop-place g l = shadow (Utf8 l.before)

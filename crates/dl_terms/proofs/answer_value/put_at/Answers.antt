@@ -13,22 +13,20 @@ pub returns-clause-put : goal.returns-clause-put
 returns-clause-put c =
     let old = members_view c.args.members.now.entries in
     let name = c.in_ok-name.name in
-    let value = c.in_ok-value.value in
+    let value = c.args.value in
     let place = c.args.place in
     let named : string_bytes name ≡ c.in-Some.name.now = c.in_ok-name.ensures.ok ∙ c.as_str.ensures in
-    let there : slice_get c.args.names.now.items place ≡ Some c.in-Some.name.now = ap (λ ns. slice_get ns place) (sym c.deref.ensures.value)
-    ∙ (sym (got c.deref.result.now place c.get.result c.get.ensures.lookup) ∙ ap option_copied c.in-Some.is) in
+    let there : slice_get c.args.names.now place ≡ Some c.in-Some.name.now =
+    sym (got c.args.names.now place c.get.result c.get.ensures.lookup) ∙ ap option_copied c.in-Some.is in
     let inserted : members_view c.insert.new.self.entries ≡ put (string_bytes name) (view value) old = ap members_view c.in_ok-insert.ensures.entries
     ∙ members_view-insert_entry c.args.members.now.entries name value in
-    inserted
-    ∙ (ap (λ k. put k (view value) old) named
-    ∙ (ap (λ d. put c.in-Some.name.now d old) c.in_ok-value.ensures.tree ∙ ap (λ o. put_named o c.args.value old) (sym there)))
+    inserted ∙ (ap (λ k. put k (view value) old) named ∙ ap (λ o. put_named o (view value) old) (sym there))
 
 pub returns-clause-whole : goal.returns-clause-whole
 returns-clause-whole c =
     let old = members_view c.args.members.now.entries in
     let name = c.in_ok-name.name in
-    let value = c.in_ok-value.value in
+    let value = c.args.value in
     λ rest. ap (λ es. members_have_float (members_view es)) c.in_ok-insert.ensures.entries
     ∙ (ap members_have_float (members_view-insert_entry c.args.members.now.entries name value)
-    ∙ put_whole (string_bytes name) (view value) old c.in_ok-value.ensures.whole rest)
+    ∙ put_whole (string_bytes name) (view value) old c.requires rest)

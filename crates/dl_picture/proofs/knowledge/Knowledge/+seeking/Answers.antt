@@ -85,7 +85,7 @@ seek-returns-in-Object t c =
     let at = option_copied c.args.item in
     let known = known_of c.args.self.now in
     let parts = c.in-Object.parts.items in
-    let names = c.in-Object.names.items in
+    let names = c.in-Object.names in
     let t = at_item at (term_view c.args.term.now) in
     let is = ap (λ x. at_item at (term_view x)) c.in-Object.is
     ∙ (ap (at_item at) (term_view-Object c.in-Object.names c.in-Object.parts) ∙ at_named at names parts) in

@@ -8,12 +8,13 @@ use Rattle.dl_picture.proofs.knowledge.Knowledge.each_of.Goals as goal
 pub returns-in-None : goal.returns-in-None
 returns-in-None c = λ t q has whose is.
     let o = c.lacks.result in
-    let missing : get c.args.field.now c.args.value ≡ None = ap (λ n. get n c.args.value) (sym c.as_str.ensures) ∙ sym c.in-None.ensures.member in
+    let missing : get c.args.field.now c.args.value ≡ None = ap (λ n. get n c.args.value) (sym c.as_str.ensures) ∙ (sym c.in_ok-member.ensures ∙ c.in-None.is) in
     each_lacks (known_of c.args.self.now) t q c.args.field.now c.args.table.now c.args.value o
     (own_is t c.args.term.now o whose c.lacks.ensures.part c.lacks.ensures.path) has is missing c.lacks.ensures.fault c.lacks.ensures.met
 
 pub returns : goal.returns
 returns c = λ t q has whose is.
-    let ids = view c.in-Some.ids.now in
-    let found : get c.args.field.now c.args.value ≡ Some ids = ap (λ n. get n c.args.value) (sym c.as_str.ensures) ∙ sym c.in-Some.ensures.member in
+    let ids = view c.value.result.now in
+    let found : get c.args.field.now c.args.value ≡ Some ids = ap (λ n. get n c.args.value) (sym c.as_str.ensures)
+    ∙ (sym c.in_ok-member.ensures ∙ (c.in-Some.is ∙ ap Some (sym c.value.ensures.tree))) in
     c.seek_list.ensures t q c.args.value c.args.field.now has found whose is

@@ -1,9 +1,15 @@
-use Rattle.std.proofs.Common.{◌∙◌, ap}
-use Rattle.serde_json.specs.View.{view}
-use Rattle.serde_json.specs.Written.{has_float}
-use Rattle.dl_terms.proofs.AnswerParts.{found_whole}
+use Rattle.std.proofs.Common.{◌≡◌, subst}
+use Rattle.std.specs.Prelude.{IfOk}
+use Rattle.serde_json.specs.Find.{get}
+use Rattle.dl_terms.specs.Inside.Member.{member_data}
+use Rattle.dl_terms.proofs.AnswerParts.{object_fits, object_tree}
 use Rattle.dl_terms.proofs.answer_value.AnswerValue.get.Goals as goal
 
-pub returns-in-Row-clause-whole : goal.returns-in-Row-clause-whole
-returns-in-Row-clause-whole c =
-    found_whole c.get.result c.args.name.now (view c.value.result.now) (ap has_float c.value.ensures.tree ∙ c.value.ensures.whole) c.get.ensures
+pub object_member-requires : goal.object_member-requires
+object_member-requires c = (object_fits c.self.inside.shape c.in-Object.names c.in-Object.values c.in-Object.is c.self.invariant).long
+
+pub returns-in-Object-clause-member : goal.returns-in-Object-clause-member
+returns-in-Object-clause-member c =
+    subst (λ d. IfOk c.object_member.result (λ m. member_data m ≡ get c.args.name.now d))
+    (object_tree c.self.inside.shape c.in-Object.names c.in-Object.values c.args.self.now c.in-Object.is c.self.invariant c.self.view_is)
+    c.object_member.ensures.member
