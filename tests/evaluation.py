@@ -25,14 +25,17 @@ class Outcome(NamedTuple):
 
 
 class Answer(NamedTuple):
-    """What a term gives: a value, or the words of a fault."""
+    """What a term gives: a value, or the words of a fault, and of one of the term's own form the places of the items around it and what is
+    wrong."""
 
     is_fault: bool
     value: object
+    places: tuple = ()
+    why: str | None = None
 
 
 # The item of a term that lies in no body.
-NO_ITEM = Answer(True, "NoItem")
+NO_ITEM = Answer(True, "NoItem", (), "item outside an over")
 
 
 class Batch:
@@ -181,6 +184,9 @@ class Loader:
         self.call()
         self.held.clear()
 
+    def ended(self, step, answer, rounds):
+        """Hears what a step answers that took so many rounds."""
+
 
 class Evaluation:
     """A term, and what is known of the keys that it loaded."""
@@ -237,9 +243,9 @@ class Evaluation:
     def over(self, items, body):
         """What a body gives for each item of a list."""
         if not isinstance(items, list):
-            return Answer(True, "NotAList")
+            return self.fault("NotAList", "no list to go over")
         if len(items) > ITEMS:
-            return Answer(True, "TooMany")
+            return self.fault("TooMany", f"over {ITEMS} items")
         answers = []
         for place, item in enumerate(items):
             self.places.append(place)
@@ -249,18 +255,24 @@ class Evaluation:
 
     def go_on(self, form, part, argument):
         """What a pick, a follow or an each makes of its part's value."""
+        name = compact(argument[1])
         if not isinstance(part.value, dict) or argument[1] not in part.value:
-            return Answer(True, "NoField")
+            return self.fault("NoField", f"no field {name}")
         field = part.value[argument[1]]
         if form == "pick":
             return Answer(False, field)
         if form == "follow":
-            return self.noted(f"follow {argument[1]}", self.load_id(argument[2], field))
+            return self.noted(f"follow {argument[1]}", self.load_id(argument[2], field, name))
         if not isinstance(field, list):
-            return Answer(True, "NotAList")
+            return self.fault("NotAList", f"{name} is no list")
         if len(field) > ITEMS:
-            return Answer(True, "TooMany")
-        return self.noted(f"each {argument[1]}", joined([self.load_id(argument[2], item) for item in field]))
+            return self.fault("TooMany", f"over {ITEMS} items in {name}")
+        loads = [self.load_id(argument[2], item, f"item {place} of {name}") for place, item in enumerate(field)]
+        return self.noted(f"each {argument[1]}", joined(loads))
+
+    def fault(self, words, why):
+        """The fault of a part's own form."""
+        return Answer(True, words, tuple(self.places), why)
 
     def noted(self, part, answer):
         """The answer of a part, which waits if it has none."""
@@ -268,10 +280,10 @@ class Evaluation:
         self.parts += [places + part] if answer is None else []
         return answer
 
-    def load_id(self, table, key):
+    def load_id(self, table, key, name=""):
         if isinstance(key, str) and 1 <= len(key.encode()) <= ID_BYTES:
             return self.look((table, key))
-        return Answer(True, "NotAKey")
+        return self.fault("NotAKey", f"{name} is no id")
 
     def look(self, key):
         self.met += 1
@@ -311,6 +323,7 @@ def answers_of(loader, plan):
             loader.step = number
             evaluation = Evaluation(loader, argument)
             answers[number] = evaluation.answer()
+            loader.ended(number, answers[number], evaluation.rounds)
             rounds += evaluation.rounds
     return answers, rounds
 

@@ -1,24 +1,36 @@
 //! What became of the cells of a history.
 
 use crate::mark::{Badges, Mark};
-use dl_desk::{BatchFault, LoadReply, Outcome};
+use dl_desk::{BatchFault, BatchState, Desk, LoadReply, Outcome};
+use dl_documents::ScriptRun;
 use dl_history::{Events, History, Reply};
 use std::alloc::{AllocError, Global};
 
-/// What became of a cell: how it began, and its outcome.
+/// What became of a cell: how it began, and how it ended.
 #[derive(Drop)]
 pub(crate) struct Fate {
     is_primed: bool,
-    outcome: Option<Outcome>,
+    end: End,
+}
+
+/// How a cell ended.
+#[derive(Drop)]
+enum End {
+    /// It didn't, or it isn't known how, and its batch didn't fail.
+    Open,
+    /// By this outcome.
+    Outcome(Outcome),
+    /// Its batch failed, and it isn't known why.
+    Failed,
 }
 
 impl Fate {
     /// The marks of a load of the cell, of which the first says what the load did.
     pub(crate) fn badges(&self, mark: Mark) -> Badges {
-        let failure = match &self.outcome {
-            Some(Outcome::KeyError(_)) => Some(Mark::KeyError),
-            Some(Outcome::BatchFailed(_)) => Some(Mark::Failed),
-            Some(Outcome::Value(_)) | None => None,
+        let failure = match &self.end {
+            End::Outcome(Outcome::KeyError(_)) => Some(Mark::KeyError),
+            End::Outcome(Outcome::BatchFailed(_)) | End::Failed => Some(Mark::Failed),
+            End::Outcome(Outcome::Value(_)) | End::Open => None,
         };
         Badges {
             mark,
@@ -29,9 +41,9 @@ impl Fate {
 
     /// The text of its error, if it has one.
     pub(crate) fn why(&self) -> Option<&str> {
-        match &self.outcome {
-            Some(outcome) => why_of(outcome),
-            None => None,
+        match &self.end {
+            End::Outcome(outcome) => why_of(outcome),
+            End::Open | End::Failed => None,
         }
     }
 }
@@ -86,12 +98,50 @@ fn push_cell(
     cell: u32,
     is_primed: bool,
 ) -> Result<(), AllocError> {
-    let outcome = match history.outcome(cell) {
-        Some(outcome) => Some(outcome.try_copy()?),
-        None => None,
+    let end = match history.outcome(cell) {
+        Some(outcome) => End::Outcome(outcome.try_copy()?),
+        None => End::Open,
     };
-    cells.push(Fate { is_primed, outcome })?;
+    cells.push(Fate { is_primed, end })?;
     Ok(())
+}
+
+/// What became of each cell of a script, in order: a prime began it, or its batch failed. Fails if memory runs out.
+pub(crate) fn script_fates(alloc: Global, run: &ScriptRun) -> Result<Vec<Fate>, AllocError> {
+    let mut cells = Vec::new(alloc);
+    for answer in &run.answers {
+        if let Ok(reply) = answer {
+            push_script_cells(&mut cells, &run.desk, reply)?;
+        }
+    }
+    Ok(cells)
+}
+
+/// The cells that a call of a script begins.
+fn push_script_cells(cells: &mut Vec<Fate>, desk: &Desk, reply: &Reply) -> Result<(), AllocError> {
+    if let Reply::Primed(_) = reply {
+        cells.push(Fate {
+            is_primed: true,
+            end: End::Open,
+        })?;
+    }
+    for reply in replies_of(reply) {
+        if let LoadReply::Fresh { batch, .. } = reply {
+            cells.push(Fate {
+                is_primed: false,
+                end: batch_end(desk, *batch),
+            })?;
+        }
+    }
+    Ok(())
+}
+
+/// How the cells of a batch of a script ended.
+fn batch_end(desk: &Desk, batch: u32) -> End {
+    match desk.batch(batch) {
+        Some(batch) if matches!(batch.state(), BatchState::Failed) => End::Failed,
+        _ => End::Open,
+    }
 }
 
 /// The replies to the loads of a call.

@@ -41,7 +41,16 @@ const BATCH_ROOM: u64 = 7;
 /// How many characters a line has room for that has no badge.
 const NOTE_ROOM: u64 = LINE_ROOM + BADGE_ROOM;
 
-/// A column: a heading, what is to the right of it, what is said below it, and lines.
+/// A column of a call's keys shows counts in their place if they are more than this.
+const MOST_KEYS: usize = 200;
+
+/// A column of a batch's keys, of a worker's batches or of faults has at most this many lines, or else its first ones and
+/// counts of the others.
+const MOST_LINES: usize = 24;
+
+pub(crate) const FIRST_LINES: usize = 8;
+
+/// A column: a heading, what is to the right of it, what is said below it, and lines, some of which are at its foot.
 #[derive(Clone, Copy)]
 pub(crate) struct Column<'a> {
     pub(crate) heading: Phrase,
@@ -50,28 +59,59 @@ pub(crate) struct Column<'a> {
     /// The batch that it is, if it is one.
     pub(crate) batch: Option<u32>,
     pub(crate) lines: Lines<'a>,
+    pub(crate) foot: Lines<'a>,
 }
 
 impl Column<'_> {
+    /// How many lines it has.
+    pub(crate) fn count(&self) -> usize {
+        self.lines.count().saturating_add(self.foot.count())
+    }
+
+    /// The line in a place, if there is one.
+    pub(crate) fn line(&self, place: usize) -> Option<Line<'_>> {
+        let count = self.lines.count();
+        if place < count {
+            self.lines.line(place)
+        } else {
+            self.foot.line(place - count)
+        }
+    }
+
     /// How high it is.
     pub(crate) fn height(&self) -> u64 {
         let mut height = self.top().saturating_add(FOOT_HEIGHT);
-        for place in 0..self.lines.count() {
-            if let Some(line) = self.lines.line(place) {
+        for place in 0..self.count() {
+            if let Some(line) = self.line(place) {
                 height = height.saturating_add(line.height());
             }
         }
         height
     }
 
-    /// The same with these lines.
-    pub(crate) fn with_lines<'l>(&'l self, lines: Lines<'l>) -> Column<'l> {
+    /// Whether it shows only the first of its lines, and counts of the others.
+    pub(crate) fn is_cut(&self) -> bool {
+        let may_be = match self.lines {
+            Lines::Ended(_) | Lines::Faults(_) => true,
+            _ => self.batch.is_some(),
+        };
+        may_be && self.lines.count() > MOST_LINES
+    }
+
+    /// Whether it shows counts in place of its lines.
+    pub(crate) fn is_summed_up(&self) -> bool {
+        self.batch.is_none() && self.lines.count() > MOST_KEYS
+    }
+
+    /// The same with these lines and these at its foot.
+    pub(crate) fn with_lines<'l>(&'l self, lines: Lines<'l>, foot: Lines<'l>) -> Column<'l> {
         Column {
             heading: self.heading,
             side: self.side,
             note: self.note,
             batch: self.batch,
             lines,
+            foot,
         }
     }
 
@@ -94,7 +134,7 @@ pub(crate) fn push_column(sheet: &mut Sheet, x: u64, y: u64, height: u64, column
     if let Some(note) = column.note {
         push_note(sheet, note);
     }
-    push_lines(sheet, column.top(), column.lines);
+    push_lines(sheet, column);
     sheet.push("</svg>\n");
 }
 
@@ -159,11 +199,11 @@ fn push_card(sheet: &mut Sheet, x: u64, y: u64, height: u64) {
     );
 }
 
-/// The lines of a column from this height on.
-fn push_lines(sheet: &mut Sheet, top: u64, lines: Lines<'_>) {
-    let mut y = top;
-    for place in 0..lines.count() {
-        if let Some(line) = lines.line(place) {
+/// The lines of a column.
+fn push_lines(sheet: &mut Sheet, column: &Column<'_>) {
+    let mut y = column.top();
+    for place in 0..column.count() {
+        if let Some(line) = column.line(place) {
             push_line(sheet, y, &line);
             y = y.saturating_add(line.height());
         }

@@ -1,9 +1,9 @@
 //! Drawings: elements of SVG from top to bottom, in rows of columns.
 
-use crate::column::{COLUMN_WIDTH, Column, push_column};
+use crate::column::{COLUMN_WIDTH, Column, FIRST_LINES, push_column};
 use crate::head::{LEGEND_STEP, push_join_meaning, push_mark, push_meaning};
 use crate::joins::Joins;
-use crate::lines::MOST_KEYS;
+use crate::lines::Lines;
 use crate::mark::{MARKS, Mark};
 use crate::phrase::Phrase;
 use crate::sheet::Sheet;
@@ -25,6 +25,9 @@ const GUTTER: u64 = 22;
 
 const GAP: u64 = 8;
 
+/// How high a place may be with a further batch. If it would be higher, the batch is in the next place.
+const MOST_FILLED: u64 = 920;
+
 /// What the number in front of a part of a term is.
 const STEP_MEANING: &str = "eval N: step N of its plan, from 0";
 
@@ -34,8 +37,8 @@ const WORDS_FOOT: u64 = 18;
 const WORDS_HEIGHT: u64 = 26;
 
 /// What is drawn so far: a sheet with elements of SVG, and how wide and high they are together; how many tiles the head
-/// has; which place of the open row is filled, how high that is, and how high the highest of them is; and what the legend
-/// is to explain.
+/// has; which place of the open row is filled, how high that is, how high the highest of them is, and how many places
+/// batches took for which another one had no room; and what the legend is to explain.
 #[derive(Drop)]
 pub(crate) struct Drawing {
     pub(crate) sheet: Sheet,
@@ -46,12 +49,11 @@ pub(crate) struct Drawing {
     pub(crate) legend: u64,
     /// How many failed batches it still has room for, if it shows counts.
     pub(crate) failures: u64,
-    /// A column with more lines of keys shows counts in their place.
-    pub(crate) most_keys: usize,
     place: u64,
     columns: u64,
     filled: u64,
     tallest: u64,
+    added: u64,
     occurring: Vec<Mark>,
     has_steps: bool,
     joins: Joins,
@@ -67,11 +69,11 @@ impl Drawing {
             tiles: 0,
             legend: 0,
             failures: 0,
-            most_keys: MOST_KEYS,
             place: 0,
             columns: 0,
             filled: 0,
             tallest: 0,
+            added: 0,
             occurring: Vec::new(alloc),
             has_steps: false,
             joins: Joins::new(alloc),
@@ -109,33 +111,57 @@ impl Drawing {
         self.add_below(column);
     }
 
-    /// Goes on to a place of the open row, unless the row has come as far.
+    /// Goes on to a place of the open row, unless the row has come as far. Places that were added don't count.
     pub(crate) fn go_to(&mut self, place: u64) {
+        let place = place.saturating_add(self.added);
         if place > self.place {
             self.place = place;
             self.filled = 0;
         }
     }
 
-    /// A column below what the place has. If its lines are too many, it has their counts.
+    /// A column below what the place has. If its lines are too many, it has counts of all of them, or of all but the first.
     pub(crate) fn add_below(&mut self, column: &Column<'_>) {
-        if !column.lines.are_many(self.most_keys) {
-            return self.add_lines(column);
+        if column.is_cut() {
+            let (first, others) = column.lines.split_at(FIRST_LINES);
+            let tally = self.tally_of(others);
+            self.add_lines(&column.with_lines(first, tally.more_lines()));
+        } else if column.is_summed_up() {
+            let tally = self.tally_of(column.lines);
+            self.add_lines(&column.with_lines(tally.lines(), column.foot));
+        } else {
+            self.add_lines(column);
         }
-        let mut tally = Tally::new(self.sheet.alloc);
-        let counted = tally.add_lines(column.lines);
-        self.sheet.note(counted);
-        self.add_lines(&column.with_lines(tally.lines()));
     }
 
-    /// A column with all its lines, below what the place has.
+    /// The counts of lines.
+    fn tally_of(&mut self, lines: Lines<'_>) -> Tally {
+        let mut tally = Tally::new(self.sheet.alloc);
+        let counted = tally.add_lines(lines);
+        self.sheet.note(counted);
+        tally
+    }
+
+    /// Goes on to a place more if a batch of this height has no room below what the place has.
+    fn make_room(&mut self, height: u64) {
+        if self.filled > 0 && self.filled.saturating_add(height) > MOST_FILLED {
+            self.added = self.added.saturating_add(1);
+            self.place = self.place.saturating_add(1);
+            self.filled = 0;
+        }
+    }
+
+    /// A column with all its lines, below what the place has, or if it is a batch without room there in the next place.
     fn add_lines(&mut self, column: &Column<'_>) {
+        let height = column.height();
+        if column.batch.is_some() {
+            self.make_room(height);
+        }
         let before = self.place.saturating_mul(COLUMN_WIDTH + GUTTER);
         let (x, y) = (
             before.saturating_add(MARGIN),
             self.height.saturating_add(self.filled),
         );
-        let height = column.height();
         self.filled = self.filled.saturating_add(height).saturating_add(GAP);
         self.tallest = self.tallest.max(self.filled);
         self.width = self.width.max(x.saturating_add(COLUMN_WIDTH + GUTTER));
@@ -150,8 +176,8 @@ impl Drawing {
 
     /// Notes which marks occur in a column.
     fn note_marks(&mut self, column: &Column<'_>) {
-        for place in 0..column.lines.count() {
-            if let Some(line) = column.lines.line(place) {
+        for place in 0..column.count() {
+            if let Some(line) = column.line(place) {
                 let marks = line.badges.marks();
                 for mark in &marks {
                     if let Some(mark) = mark {
@@ -185,7 +211,7 @@ impl Drawing {
         if self.joins.are_drawn() {
             x = push_join_meaning(&mut sheet, x, y);
         }
-        if self.has_steps {
+        if self.has_steps || self.occurring.contains(&Mark::Fault) {
             push_meaning(&mut sheet, x, y, STEP_MEANING);
         }
         sheet
@@ -199,6 +225,7 @@ impl Drawing {
         self.columns = 0;
         self.filled = 0;
         self.tallest = 0;
+        self.added = 0;
     }
 
     /// The drawing as a document. Fails if memory ran out.

@@ -3,6 +3,7 @@
 use crate::column::Column;
 use crate::drawing::Drawing;
 use crate::lanes::{Scene, add_batch, call_lines, call_name, ends_column, event_of, keys_of};
+use crate::lines::NO_LINES;
 use crate::mark::Mark;
 use crate::phrase::Phrase;
 use crate::tally::Tally;
@@ -82,6 +83,7 @@ fn add_fold(drawing: &mut Drawing, scene: Scene<'_>, place: u64, fold: &Fold<'_>
         note: None,
         batch: None,
         lines: fold.tally.lines(),
+        foot: NO_LINES,
     });
     for job in &fold.failed {
         if drawing.failures > 0 {

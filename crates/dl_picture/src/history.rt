@@ -11,7 +11,7 @@ use crate::lanes::{
 };
 use crate::lines::MOST_BATCHES;
 use crate::numbers::{HistoryNumbers, history_numbers, plan_numbers};
-use crate::parts::plan_parts;
+use crate::parts::{Steps, plan_steps};
 use crate::phrase::Phrase;
 use dl_history::History;
 use dl_terms::{MOST_PLANS, Term};
@@ -24,17 +24,16 @@ const MOST_ROUNDS: usize = 60;
 /// So does one that would have more bytes than this.
 pub(crate) const MOST_BYTES: usize = 900_000;
 
-/// A picture that shows counts has this many of its failed batches, and of each of them this many keys, or their count.
+/// A picture that shows counts has this many of its failed batches.
 const MOST_FAILURES: u64 = 60;
-
-const FEW_KEYS: usize = 20;
 
 /// Draws a history, as SVG. Of what serving plans left, you give the terms of each plan, as [`terms_of`](crate::terms_of)
 /// gives them: the first callers are these plans, and the others are workers. Without terms the callers are none of
 /// these. Each plan has a lane, as each caller does that made other calls than ends of batches, and its rounds are in it
 /// from left to right, or the calls up to each of its dispatches. A round of a plan says which step and which part of its
-/// term it loads for. Above it are the primes and clears before it, and below it the batches that it sent, which lines
-/// join to their keys. With more than 60 batches, or as many rounds, or calls without plans, in a lane, a lane shows
+/// term it loads for, and in which fault of the term's own form the step ends with it. Above it are the primes and clears
+/// before it, and below it the batches that it sent, which lines join to their keys: those that have no room there are to
+/// its right. A batch of more than 24 keys has the first 8 of them, and counts of the others. With more than 60 batches, or as many rounds, or calls without plans, in a lane, a lane shows
 /// counts, and the first batches that failed, so the text has less than a megabyte. `hashing` hashes keys, and nothing
 /// that you see depends on it.
 ///
@@ -68,8 +67,8 @@ pub fn history_picture(
     };
     let is_short = longest(scene) <= MOST_ROUNDS && has_few_calls(scene);
     if numbers.batches.batches <= MOST_BATCHES as u64 && is_short {
-        let parts = plan_parts(alloc, hashing, history, plans.unwrap_or(&[]))?;
-        let picture = whole_picture(alloc, scene, &numbers, alone, parts.as_slice())?;
+        let steps = plan_steps(alloc, hashing, history, plans.unwrap_or(&[]))?;
+        let picture = whole_picture(alloc, scene, &numbers, alone, steps.as_slice())?;
         if picture.len() <= MOST_BYTES {
             return Ok(picture);
         }
@@ -81,24 +80,21 @@ pub fn history_picture(
     folded_picture(alloc, scene, &numbers, alone, 0)
 }
 
-/// The picture with all keys. Without a loader plans make `alone` fetches, and their rounds load for these parts.
+/// The picture with the keys of all calls. Without a loader plans make `alone` fetches, and of the steps of each it says
+/// this.
 fn whole_picture(
     alloc: Global,
     scene: Scene<'_>,
     numbers: &HistoryNumbers,
     alone: Option<u64>,
-    parts: &[Vec<String>],
+    steps: &[Steps],
 ) -> Result<String, AllocError> {
     let mut drawing = Drawing::new(alloc);
     add_head(&mut drawing, numbers, alone);
     for caller in 0..most_lanes(scene) {
         if has_lane(scene, caller) {
             add_lane_words(&mut drawing, scene, caller);
-            let own: &[String] = match parts.get(caller as usize) {
-                Some(parts) => parts.as_slice(),
-                None => &[],
-            };
-            add_calls(&mut drawing, scene, caller, own);
+            add_calls(&mut drawing, scene, caller, steps.get(caller as usize));
         }
     }
     add_all_workers(&mut drawing, scene);
@@ -115,7 +111,6 @@ fn folded_picture(
 ) -> Result<String, AllocError> {
     let mut drawing = Drawing::new(alloc);
     drawing.failures = failures;
-    drawing.most_keys = FEW_KEYS;
     add_head(&mut drawing, numbers, alone);
     let rounds_each = rounds_a_column(lanes(scene), longest(scene));
     for caller in 0..most_lanes(scene) {

@@ -57,8 +57,8 @@ impl Joins {
         let mut y = y
             .saturating_add(column.top())
             .saturating_add(LINE_HEIGHT / 2);
-        for place in 0..column.lines.count() {
-            if let Some(line) = column.lines.line(place) {
+        for place in 0..column.count() {
+            if let Some(line) = column.line(place) {
                 if let Some(batch) = line.batch {
                     self.note_key(batch, x, y)?;
                 }

@@ -3,9 +3,10 @@
 use crate::cells::{Fate, replies_of, why_failed};
 use crate::column::Column;
 use crate::drawing::Drawing;
-use crate::lines::{Ended, Lines};
+use crate::lines::{Ended, Lines, NO_LINES};
 use crate::loads::is_round;
 use crate::mark::Mark;
+use crate::parts::Steps;
 use crate::phrase::Phrase;
 use dl_desk::{FetchKey, Job};
 use dl_history::{Call, EntryKind, Event, Events, History, Reply};
@@ -63,24 +64,27 @@ pub(crate) fn ends_column(scene: Scene<'_>, event: &Event) -> bool {
     }
 }
 
-/// The lane of a caller. Each round of a plan is in its place, below the primes and clears since the round before and
-/// above the batches that it sent, and loads for one of these parts of terms. Another caller's calls up to a dispatch are
-/// above its batches.
+/// The lane of a caller, and what it says of the steps of a plan. Each round of a plan is in its place, below the primes
+/// and clears since the round before, and the faults of steps without a round there, and above the batches that it sent.
+/// Another caller's calls up to a dispatch are above its batches.
 pub(crate) fn add_calls<'a>(
     drawing: &mut Drawing,
     scene: Scene<'a>,
     caller: u32,
-    parts: &'a [String],
+    steps: Option<&'a Steps>,
 ) {
     let mut rounds: usize = 0;
     for entry in scene.history.entries(caller) {
         if let Some(event) = event_of(scene.history.events(), *entry) {
-            add_call(drawing, scene, event, rounds, parts);
+            add_call(drawing, scene, event, rounds, steps);
             add_sent(drawing, scene, &event.reply);
             if ends_column(scene, event) {
                 rounds = rounds.saturating_add(1);
             }
         }
+    }
+    if let Some(steps) = steps {
+        add_faults(drawing, steps, rounds);
     }
 }
 
@@ -90,21 +94,41 @@ fn add_call<'a>(
     scene: Scene<'a>,
     event: &'a Event,
     rounds: usize,
-    parts: &'a [String],
+    steps: Option<&'a Steps>,
 ) {
     if let Some(heading) = call_name(&event.call, scene.plans.map(|_| rounds)) {
         let lines = call_lines(scene.cells, keys_of(&event.call), &event.reply);
-        let note = match &event.call {
-            Call::LoadMany(_) => parts.get(rounds),
-            _ => None,
-        };
+        let side = Phrase::count(lines.count(), " key", " keys");
+        let (mut note, mut foot) = (None, NO_LINES);
+        if let (Call::LoadMany(_), Some(steps)) = (&event.call, steps) {
+            add_faults(drawing, steps, rounds);
+            note = steps.part(rounds);
+            foot = Lines::Faults(steps.faults_at(rounds));
+        }
         drawing.go_to(rounds as u64);
         drawing.add_below(&Column {
             heading,
-            side: Phrase::count(lines.count(), " key", " keys"),
-            note: note.map(|part| part.as_str()),
+            side,
+            note,
             batch: None,
             lines,
+            foot,
+        });
+    }
+}
+
+/// A column with the faults of the steps of a plan that take no round and come behind this many, if there are any.
+fn add_faults(drawing: &mut Drawing, steps: &Steps, rounds: usize) {
+    let faults = steps.faults_before(rounds);
+    if !faults.is_empty() {
+        drawing.go_to(rounds as u64);
+        drawing.add_below(&Column {
+            heading: Phrase::Words("no round"),
+            side: Phrase::count(faults.len(), " step", " steps"),
+            note: None,
+            batch: None,
+            lines: Lines::Faults(faults),
+            foot: NO_LINES,
         });
     }
 }
@@ -202,6 +226,7 @@ pub(crate) fn add_batch(drawing: &mut Drawing, scene: Scene<'_>, job: &Job) {
         note,
         batch: Some(number),
         lines,
+        foot: NO_LINES,
     });
 }
 
@@ -275,6 +300,7 @@ fn add_worker(drawing: &mut Drawing, events: &Events, entries: &[EntryKind], hea
             note: None,
             batch: None,
             lines,
+            foot: NO_LINES,
         });
     }
 }

@@ -15,6 +15,7 @@ mod cells;
 mod column;
 mod cut_text;
 mod drawing;
+mod faults;
 mod folded;
 mod head;
 mod history;

@@ -2,16 +2,14 @@
 
 use crate::cells::{Fate, why_of};
 use crate::column::LINE_HEIGHT;
+use crate::faults::StepFault;
 use crate::mark::{Badges, Mark};
 use crate::phrase::Phrase;
 use crate::sheet::Sheet;
 use dl_desk::{FetchKey, LoadReply, Outcome};
 use std::alloc::{AllocError, Global};
 
-/// A column with more lines of keys than this shows counts in their place, in a picture that shows keys.
-pub(crate) const MOST_KEYS: usize = 200;
-
-/// The same for lines of batches. A picture with more batches than this shows counts of all keys.
+/// A picture with more batches than this shows counts of all keys.
 pub(crate) const MOST_BATCHES: usize = 60;
 
 /// What a line says next to its mark.
@@ -19,6 +17,8 @@ pub(crate) const MOST_BATCHES: usize = 60;
 pub(crate) enum Label<'a> {
     /// A key.
     Key(&'a FetchKey),
+    /// A text.
+    Text(&'a str),
     /// Words of the program.
     Words(Phrase),
     /// The same of whole batches.
@@ -35,6 +35,7 @@ impl Label<'_> {
                 sheet.push("/");
                 sheet.push(key.id());
             }
+            Label::Text(text) => sheet.push(text),
             Label::Words(words) | Label::Batches(words) => sheet.push_phrase(words),
         }
         sheet.finish()
@@ -67,7 +68,7 @@ pub(crate) struct Ended {
     pub(crate) mark: Mark,
 }
 
-/// How many keys have these marks, how many batches ended so, or how many calls were refused.
+/// How many keys have these marks, how many batches ended so, or how many calls were refused or steps have faults.
 #[derive(Clone, Copy)]
 pub(crate) struct Count {
     pub(crate) badges: Badges,
@@ -99,9 +100,16 @@ pub(crate) enum Lines<'a> {
     Ended(&'a [Ended]),
     /// One line: why the call was refused.
     Refused(&'static str),
+    /// A line for each fault in which a step ends.
+    Faults(&'a [StepFault]),
     /// A line for each count.
     Counts(&'a [Count]),
+    /// The same, of what comes behind other lines.
+    More(&'a [Count]),
 }
+
+/// No lines.
+pub(crate) const NO_LINES: Lines<'static> = Lines::Counts(&[]);
 
 impl<'a> Line<'a> {
     /// A line with this label alone.
@@ -172,6 +180,30 @@ impl<'a> Line<'a> {
         Line::of(label, count.badges)
     }
 
+    /// The line of a count of what comes behind other lines.
+    fn of_more(count: &Count) -> Line<'a> {
+        let number = count.count as u64;
+        let label = match count.badges.mark {
+            _ if count.is_of_batches => {
+                Label::Batches(Phrase::Numbered("and ", number, " more batches"))
+            }
+            Mark::Fault => Label::Words(Phrase::Numbered("and ", number, " more steps")),
+            _ => Label::Words(Phrase::Numbered("and ", number, " more keys")),
+        };
+        Line::of(label, count.badges)
+    }
+
+    /// The line of a fault in which a step ends.
+    fn of_fault(fault: &'a StepFault) -> Line<'a> {
+        Line {
+            badges: Badges::of(Mark::Fault),
+            label: Label::Text(fault.step.as_str()),
+            batch: None,
+            why: Some(fault.why.as_str()),
+            shows_why: true,
+        }
+    }
+
     /// The line of an ended batch.
     fn of_end(ended: &Ended) -> Line<'a> {
         let words = Phrase::Numbered("batch ", ended.batch as u64, "");
@@ -188,16 +220,46 @@ impl<'a> Lines<'a> {
             }
             Lines::Ended(batches) => batches.len(),
             Lines::Refused(_) => 1,
-            Lines::Counts(counts) => counts.len(),
+            Lines::Faults(faults) => faults.len(),
+            Lines::Counts(counts) | Lines::More(counts) => counts.len(),
         }
     }
 
-    /// Whether they are too many to draw each of them, if those of keys may be as many as this.
-    pub(crate) fn are_many(self, most_keys: usize) -> bool {
+    /// The first of them, as many as this at most, and the others. Loads, and what is no list, stay together.
+    pub(crate) fn split_at(self, most: usize) -> (Lines<'a>, Lines<'a>) {
         match self {
-            Lines::Ended(batches) => batches.len() > MOST_BATCHES,
-            Lines::Counts(_) => false,
-            _ => self.count() > most_keys,
+            Lines::Keys { keys, mark } => {
+                let (first, others) = split_at(keys, most);
+                (
+                    Lines::Keys { keys: first, mark },
+                    Lines::Keys { keys: others, mark },
+                )
+            }
+            Lines::Settled { keys, outcomes } => {
+                let (first, others) = split_at(keys, most);
+                let (own, left) = split_at(outcomes, most);
+                (
+                    Lines::Settled {
+                        keys: first,
+                        outcomes: own,
+                    },
+                    Lines::Settled {
+                        keys: others,
+                        outcomes: left,
+                    },
+                )
+            }
+            Lines::Ended(batches) => {
+                let (first, others) = split_at(batches, most);
+                (Lines::Ended(first), Lines::Ended(others))
+            }
+            Lines::Faults(faults) => {
+                let (first, others) = split_at(faults, most);
+                (Lines::Faults(first), Lines::Faults(others))
+            }
+            Lines::Loads { .. } | Lines::Refused(_) | Lines::Counts(_) | Lines::More(_) => {
+                (self, NO_LINES)
+            }
         }
     }
 
@@ -228,10 +290,23 @@ impl<'a> Lines<'a> {
                 Label::Words(Phrase::Words(name)),
                 Badges::of(Mark::Refused),
             )),
+            Lines::Faults(faults) => match faults.get(place) {
+                Some(fault) => Some(Line::of_fault(fault)),
+                None => None,
+            },
             Lines::Counts(counts) => match counts.get(place) {
                 Some(count) => Some(Line::of_count(count)),
                 None => None,
             },
+            Lines::More(counts) => match counts.get(place) {
+                Some(count) => Some(Line::of_more(count)),
+                None => None,
+            },
         }
     }
+}
+
+/// The first items of a list, as many as this at most, and the others.
+fn split_at<T>(items: &[T], most: usize) -> (&[T], &[T]) {
+    items.split_at(most.min(items.len()))
 }

@@ -1,6 +1,6 @@
 //! Marks: what became of a key in a call, or how a batch ended.
 
-/// What became of a key in a call, or that a batch is settled.
+/// What became of a key in a call, that a batch is settled, or how a step ends.
 #[derive(Clone, Copy, PartialEq, Eq)]
 pub(crate) enum Mark {
     /// Its load began a cell.
@@ -23,10 +23,12 @@ pub(crate) enum Mark {
     Settled,
     /// Its batch hasn't ended.
     Waiting,
+    /// A step ends in a fault of its term's own form.
+    Fault,
 }
 
 /// All marks, in the order in which the head explains them.
-pub(crate) static MARKS: [Mark; 10] = [
+pub(crate) static MARKS: [Mark; 11] = [
     Mark::Fresh,
     Mark::Hit,
     Mark::Primed,
@@ -37,6 +39,7 @@ pub(crate) static MARKS: [Mark; 10] = [
     Mark::Refused,
     Mark::Settled,
     Mark::Waiting,
+    Mark::Fault,
 ];
 
 /// The marks of a line: what its call did, and of a load whether a prime began the cell, and how the cell failed.
@@ -82,6 +85,7 @@ impl Mark {
             Mark::Refused => "R",
             Mark::Settled => "S",
             Mark::Waiting => "W",
+            Mark::Fault => "!",
         }
     }
 
@@ -98,6 +102,7 @@ impl Mark {
             Mark::Refused => "refused",
             Mark::Settled => "settled",
             Mark::Waiting => "waiting",
+            Mark::Fault => "fault",
         }
     }
 
@@ -106,6 +111,7 @@ impl Mark {
         match self {
             Mark::KeyError => "error of its key",
             Mark::Failed => "batch failed",
+            Mark::Fault => "fault of a term",
             _ => self.class(),
         }
     }

@@ -1,7 +1,11 @@
-//! What each round of a plan loads for: the number of its step, and the parts of its term that wait.
+//! What each round of a plan loads for, as the number of its step and the parts of its term that wait, and which steps
+//! end in faults of their terms' own forms.
 
 use crate::asked::{Cells, read_round};
+use crate::faults::{Ends, StepFault, faults_after, push_end, step_fault};
 use crate::knowledge::Knowledge;
+use crate::origin::Origin;
+use crate::origins::fault_origins;
 use crate::sheet::Sheet;
 use dl_desk::FetchKey;
 use dl_history::{Call, Event, Events, History};
@@ -73,55 +77,158 @@ struct Round<'h> {
     others: u64,
 }
 
-/// What each round of each plan loads for, in order. Fails if memory runs out.
-pub(crate) fn plan_parts(
+/// The rounds of a plan, and how many primes and clears it made in all.
+#[derive(Drop)]
+struct Rounds<'h> {
+    rounds: Vec<Round<'h>>,
+    others: u64,
+}
+
+impl Rounds<'_> {
+    /// How many primes and clears the plan made before the last of its first `passed` rounds, or before all of them.
+    fn others_before(&self, passed: usize) -> u64 {
+        match passed.checked_sub(1) {
+            Some(last) => self.others_from(last),
+            None => 0,
+        }
+    }
+
+    /// How many it made before the round in this place, or at all if there is none.
+    fn others_from(&self, place: usize) -> u64 {
+        match self.rounds.get(place) {
+            Some(round) => round.others,
+            None => self.others,
+        }
+    }
+
+    /// The number of the step of the term with this number that reads rounds up to the first `passed` ones.
+    fn step_of_round(&self, term: u64, passed: usize) -> u64 {
+        self.others_before(passed).saturating_add(term)
+    }
+
+    /// The number of the step of the term with this number that takes no round and comes behind the first `passed` ones,
+    /// unless a prime or a clear is there too.
+    fn step_between(&self, term: u64, passed: usize) -> Option<u64> {
+        let others = self.others_before(passed);
+        if self.others_from(passed) == others {
+            Some(others.saturating_add(term))
+        } else {
+            None
+        }
+    }
+}
+
+/// What a lane says of the steps of its plan.
+#[derive(Drop)]
+pub(crate) struct Steps {
+    /// What each round loads for.
+    parts: Vec<String>,
+    /// The faults in which steps end with a round.
+    ends: Vec<Ends>,
+    /// Those in which steps end that take no round.
+    others: Vec<Ends>,
+}
+
+impl Steps {
+    /// What the round in this place loads for, if that is known.
+    pub(crate) fn part(&self, place: usize) -> Option<&str> {
+        match self.parts.get(place) {
+            Some(part) => Some(part.as_str()),
+            None => None,
+        }
+    }
+
+    /// The fault in which a step ends with the round in this place, if it does.
+    pub(crate) fn faults_at(&self, place: usize) -> &[StepFault] {
+        faults_after(self.ends.as_slice(), place.saturating_add(1))
+    }
+
+    /// The faults in which steps end before the round in this place, behind the one before, and take no round.
+    pub(crate) fn faults_before(&self, place: usize) -> &[StepFault] {
+        faults_after(self.others.as_slice(), place)
+    }
+
+    /// With the fault of a term, if it has one of its own form: the term with this number, which comes behind `before`
+    /// rounds and reads what there is up to now. Fails if memory runs out.
+    fn push_fault(
+        &mut self,
+        alloc: Global,
+        rounds: &Rounds<'_>,
+        term: u64,
+        before: usize,
+        origin: &Origin<'_>,
+    ) -> Result<(), AllocError> {
+        let passed = self.parts.len();
+        let takes_rounds = before < passed;
+        let number = if takes_rounds {
+            Some(rounds.step_of_round(term, passed))
+        } else {
+            rounds.step_between(term, passed)
+        };
+        if let Some(fault) = step_fault(alloc, number, origin)? {
+            let ends = if takes_rounds {
+                &mut self.ends
+            } else {
+                &mut self.others
+            };
+            push_end(alloc, ends, passed, fault)?;
+        }
+        Ok(())
+    }
+}
+
+/// What the lane of each plan says of its steps, in order. Fails if memory runs out.
+pub(crate) fn plan_steps(
     alloc: Global,
     hashing: RandomState,
     history: &History,
     plans: &[Vec<Term>],
-) -> Result<Vec<Vec<String>>, AllocError> {
-    let mut parts = Vec::new(alloc);
+) -> Result<Vec<Steps>, AllocError> {
+    let mut steps = Vec::new(alloc);
     let mut caller: u32 = 0;
     for terms in plans {
-        let own = round_parts(alloc, hashing, history, terms.as_slice(), caller)?;
-        parts.push(own)?;
+        let own = steps_of(alloc, hashing, history, terms.as_slice(), caller)?;
+        steps.push(own)?;
         caller = caller.saturating_add(1);
     }
-    Ok(parts)
+    Ok(steps)
 }
 
-/// What each round of a plan loads for, in order, by the plan's caller and its terms. Fails if memory runs out.
-fn round_parts(
+/// What the lane of a plan says of its steps, by the plan's caller and its terms. Fails if memory runs out.
+fn steps_of(
     alloc: Global,
     hashing: RandomState,
     history: &History,
     terms: &[Term],
     caller: u32,
-) -> Result<Vec<String>, AllocError> {
+) -> Result<Steps, AllocError> {
     let rounds = rounds_of(alloc, history.events(), caller)?;
-    let mut parts = Vec::new(alloc);
-    let mut number: u64 = 0;
-    for term in terms {
-        let numbered = (number, term);
+    let origins = fault_origins(alloc, hashing, history, caller, terms)?;
+    let mut steps = Steps {
+        parts: Vec::new(alloc),
+        ends: Vec::new(alloc),
+        others: Vec::new(alloc),
+    };
+    for (place, term) in terms.iter().enumerate() {
+        let (number, before) = (place as u64, steps.parts.len());
+        let passed = rounds.rounds.as_slice();
         push_parts(
             alloc,
             hashing,
             history,
-            rounds.as_slice(),
-            numbered,
-            &mut parts,
+            passed,
+            (number, term),
+            &mut steps.parts,
         )?;
-        number = number.saturating_add(1);
+        if let Some(Some(origin)) = origins.get(place) {
+            steps.push_fault(alloc, &rounds, number, before, origin)?;
+        }
     }
-    Ok(parts)
+    Ok(steps)
 }
 
 /// The rounds of a caller. Fails if memory runs out.
-fn rounds_of<'h>(
-    alloc: Global,
-    events: &'h Events,
-    caller: u32,
-) -> Result<Vec<Round<'h>>, AllocError> {
+fn rounds_of<'h>(alloc: Global, events: &'h Events, caller: u32) -> Result<Rounds<'h>, AllocError> {
     let mut rounds = Vec::new(alloc);
     let mut others: u64 = 0;
     for at in 0..events.len() {
@@ -137,7 +244,7 @@ fn rounds_of<'h>(
             }
         }
     }
-    Ok(rounds)
+    Ok(Rounds { rounds, others })
 }
 
 /// Appends what the rounds of a term load for, of which the first is the one after those that have their parts. You give

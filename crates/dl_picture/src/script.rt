@@ -1,16 +1,18 @@
 //! The picture of a script.
 
+use crate::cells::{Fate, script_fates};
 use crate::column::Column;
 use crate::drawing::Drawing;
 use crate::head::{add_count, add_numbers, end_head};
 use crate::history::MOST_BYTES;
-use crate::lines::{Lines, MOST_BATCHES};
+use crate::lanes::call_lines;
+use crate::lines::{Lines, MOST_BATCHES, NO_LINES};
 use crate::mark::Mark;
 use crate::numbers::{HistoryNumbers, script_numbers};
 use crate::phrase::Phrase;
 use crate::tally::Tally;
 use dl_desk::{BatchState, BatchView, Desk, DeskCall, DeskFault, FetchKey, Reply};
-use dl_documents::{Script, ScriptRun};
+use dl_documents::Script;
 use std::alloc::{AllocError, Global};
 use std::hash::RandomState;
 
@@ -27,58 +29,73 @@ pub fn script_picture(
 ) -> Result<String, AllocError> {
     let run = script.play(alloc, hashing)?;
     let numbers = script_numbers(&run)?;
+    let cells = script_fates(alloc, &run)?;
+    let calls = Calls {
+        calls: script.calls.as_slice(),
+        answers: run.answers.as_slice(),
+        cells: cells.as_slice(),
+    };
     if numbers.batches.batches <= MOST_BATCHES as u64 {
-        let picture = run_picture(alloc, script.calls.as_slice(), &run, &numbers)?;
+        let picture = run_picture(alloc, calls, &run.desk, &numbers)?;
         if picture.len() <= MOST_BYTES {
             return Ok(picture);
         }
     }
-    folded_picture(alloc, script.calls.as_slice(), &run, &numbers)
+    folded_picture(alloc, calls, &run.desk, &numbers)
+}
+
+/// The calls of a script with their answers, and what became of the cells.
+#[derive(Clone, Copy)]
+struct Calls<'a> {
+    calls: &'a [DeskCall],
+    answers: &'a [Result<Reply, DeskFault>],
+    cells: &'a [Fate],
 }
 
 /// The picture of what calls left: a head with its numbers, the calls, and the batches.
 fn run_picture(
     alloc: Global,
-    calls: &[DeskCall],
-    run: &ScriptRun,
+    calls: Calls<'_>,
+    desk: &Desk,
     numbers: &HistoryNumbers,
 ) -> Result<String, AllocError> {
     let mut drawing = Drawing::new(alloc);
-    add_head(&mut drawing, run, numbers);
-    add_calls(&mut drawing, calls, run.answers.as_slice());
+    add_head(&mut drawing, calls, numbers);
+    add_calls(&mut drawing, calls);
     drawing.add_words("lane", Phrase::Words("batches"));
-    add_batches(&mut drawing, &run.desk);
+    add_batches(&mut drawing, desk);
     drawing.finish()
 }
 
 /// The same with counts of the calls' keys, and of the batches.
 fn folded_picture(
     alloc: Global,
-    calls: &[DeskCall],
-    run: &ScriptRun,
+    calls: Calls<'_>,
+    desk: &Desk,
     numbers: &HistoryNumbers,
 ) -> Result<String, AllocError> {
     let mut tally = Tally::new(alloc);
-    for (call, answer) in calls.iter().zip(run.answers.as_slice()) {
-        tally.add_lines(call_lines(call, answer))?;
+    for (call, answer) in calls.calls.iter().zip(calls.answers) {
+        tally.add_lines(lines_of(calls.cells, call, answer))?;
     }
-    count_batches(&mut tally, &run.desk)?;
+    count_batches(&mut tally, desk)?;
     let mut drawing = Drawing::new(alloc);
-    add_head(&mut drawing, run, numbers);
+    add_head(&mut drawing, calls, numbers);
     drawing.add_column(&Column {
         heading: Phrase::Words("all calls"),
         side: Phrase::Words(""),
         note: None,
         batch: None,
         lines: tally.lines(),
+        foot: NO_LINES,
     });
     drawing.finish()
 }
 
 /// The head of a script's picture, and the words above its calls.
-fn add_head(drawing: &mut Drawing, run: &ScriptRun, numbers: &HistoryNumbers) {
+fn add_head(drawing: &mut Drawing, calls: Calls<'_>, numbers: &HistoryNumbers) {
     drawing.add_words("title", Phrase::Words("What the calls were answered"));
-    add_count(drawing, "calls", "calls", run.answers.len() as u64);
+    add_count(drawing, "calls", "calls", calls.answers.len() as u64);
     add_numbers(drawing, numbers, "keys in batches");
     end_head(drawing);
     drawing.add_words("lane", Phrase::Words("calls"));
@@ -87,20 +104,17 @@ fn add_head(drawing: &mut Drawing, run: &ScriptRun, numbers: &HistoryNumbers) {
 // ---- calls
 
 /// A column for each call, with its number and its answer.
-fn add_calls<'a>(
-    drawing: &mut Drawing,
-    calls: &'a [DeskCall],
-    answers: &'a [Result<Reply, DeskFault>],
-) {
-    for number in 0..calls.len() {
-        if let Some(call) = calls.get(number) {
-            if let Some(answer) = answers.get(number) {
+fn add_calls(drawing: &mut Drawing, calls: Calls<'_>) {
+    for number in 0..calls.calls.len() {
+        if let Some(call) = calls.calls.get(number) {
+            if let Some(answer) = calls.answers.get(number) {
                 drawing.add_column(&Column {
                     heading: Phrase::Named(number as u64, name_of(call)),
                     side: side_of(call, answer),
                     note: None,
                     batch: None,
-                    lines: call_lines(call, answer),
+                    lines: lines_of(calls.cells, call, answer),
+                    foot: NO_LINES,
                 });
             }
         }
@@ -135,31 +149,13 @@ fn side_of(call: &DeskCall, answer: &Result<Reply, DeskFault>) -> Phrase {
 }
 
 /// A line for each key of a call, with what became of it, or why the call was refused.
-fn call_lines<'a>(call: &'a DeskCall, answer: &'a Result<Reply, DeskFault>) -> Lines<'a> {
-    let keys = keys_of(call);
+fn lines_of<'a>(
+    cells: &'a [Fate],
+    call: &'a DeskCall,
+    answer: &'a Result<Reply, DeskFault>,
+) -> Lines<'a> {
     match answer {
-        Ok(Reply::Loaded(reply)) => Lines::Loads {
-            cells: &[],
-            keys,
-            replies: std::slice::from_ref(reply),
-        },
-        Ok(Reply::Many(replies)) => Lines::Loads {
-            cells: &[],
-            keys,
-            replies: replies.as_slice(),
-        },
-        Ok(Reply::Primed(_)) => Lines::Keys {
-            keys,
-            mark: Mark::Primed,
-        },
-        Ok(Reply::Kept) => Lines::Keys {
-            keys,
-            mark: Mark::Kept,
-        },
-        Ok(Reply::Done | Reply::Sent(_)) => Lines::Keys {
-            keys,
-            mark: Mark::Cleared,
-        },
+        Ok(reply) => call_lines(cells, keys_of(call), reply),
         Err(fault) => Lines::Refused(fault_name(*fault)),
     }
 }
@@ -229,5 +225,6 @@ fn batch_column<'a>(number: u32, batch: &BatchView<'a>) -> Column<'a> {
         note: None,
         batch: Some(number),
         lines: Lines::Keys { keys, mark },
+        foot: NO_LINES,
     }
 }

@@ -24,7 +24,8 @@ text{font-family:ui-monospace,'DejaVu Sans Mono',Menlo,Consolas,monospace;font-s
 .refused{fill:#1b1f24}
 .settled{fill:#0072b2}
 .waiting{fill:#ffffff;stroke:#57606a}
-.settled+.letter,.refused+.letter{fill:#ffffff}
+.fault{fill:#a40000}
+.settled+.letter,.refused+.letter,.fault+.letter{fill:#ffffff}
 .join{fill:none;stroke:#8c959f}
 @supports (color:light-dark(#ffffff,#000000)){
 svg{background:light-dark(#ffffff,#12161b)}

@@ -4,7 +4,8 @@ use crate::lines::{Count, Label, Lines};
 use crate::mark::{Badges, Mark};
 use std::alloc::{AllocError, Global};
 
-/// How many keys have which marks, how many batches ended in which way, and how many calls were refused.
+/// How many keys have which marks, how many batches ended in which way, how many calls were refused, and how many steps
+/// have faults.
 #[derive(Drop)]
 pub(crate) struct Tally {
     counts: Vec<Count>,
@@ -26,6 +27,11 @@ impl Tally {
     /// Its counts, as lines.
     pub(crate) fn lines(&self) -> Lines<'_> {
         Lines::Counts(self.counts.as_slice())
+    }
+
+    /// Its counts, as lines below others of the same kind.
+    pub(crate) fn more_lines(&self) -> Lines<'_> {
+        Lines::More(self.counts.as_slice())
     }
 
     /// Counts lines that aren't counts. Fails if memory runs out.
