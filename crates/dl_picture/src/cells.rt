@@ -139,8 +139,11 @@ fn push_script_cells(cells: &mut Vec<Fate>, desk: &Desk, reply: &Reply) -> Resul
 /// How the cells of a batch of a script ended.
 fn batch_end(desk: &Desk, batch: u32) -> End {
     match desk.batch(batch) {
-        Some(batch) if matches!(batch.state(), BatchState::Failed) => End::Failed,
-        _ => End::Open,
+        Some(batch) => match batch.state() {
+            BatchState::Failed => End::Failed,
+            _ => End::Open,
+        },
+        None => End::Open,
     }
 }
 
