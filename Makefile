@@ -51,8 +51,10 @@ program = cd crates/plans && $(rt) run -- --help && { [[ -f out/plans.stamp ]] |
 tell_why = grep -Em12 ': (not proved|no proof)|it is not proved|\berror(:|\[)' $(@D)/log || tail -n12 $(@D)/log; \
 	echo "plans: $* is not proved; the whole output is in $$PWD/$(@D)/log"
 
+# A crate's line of crates.txt, and the folders that the program is made of: one that is gone is a change too.
+line = grep -E '^$*\b' crates.txt && printf '%s\n' $(wildcard crates/$*/src crates/$*/specs)
 crates/%/out/line: always
-	@mkdir -p $(@D) && grep -E '^$*\b' crates.txt | cmp -s - $@ || grep -E '^$*\b' crates.txt >$@
+	@mkdir -p $(@D) && { $(line); } | cmp -s - $@ || { $(line); } >$@
 always:
 
 # Makes in dist/ what others install without the toolchain.
