@@ -200,7 +200,7 @@ def right_of(error: ValidationError, value: Json) -> str:
     text = f"Write {words(error.schema)}"
     if "version" in missing(error):
         return f'{text}. For a script, write "script" and "calls".'
-    if missing(error) == ["tables"] and error.instance.get("version") == 2:
+    if missing(error) == ["tables"] and error.instance.get("version") in (2, 3):
         return f"{text}. For a database, say ./check_document --database FILE."
     # The check of values is of their numbers alone.
     is_of_numbers = error.schema.get("type") == "integer" or error.validator == "anyOf"
@@ -341,9 +341,9 @@ def doubles_of_script(document: Json) -> Iterator[Finding]:
 
 
 def document_over(has_database: bool, value: Json) -> Json:
-    """What counts in place of a document: over a database, a plan file of version 2 may lack its tables."""
-    is_second = isinstance(value, dict) and "script" not in value and value.get("version") == 2 and is_whole(None, value["version"])
-    return {"tables": [], **value} if has_database and is_second else value
+    """What counts in place of a document: over a database, a plan file of version 2 or 3 may lack its tables."""
+    is_later = isinstance(value, dict) and "script" not in value and value.get("version") in (2, 3) and is_whole(None, value["version"])
+    return {"tables": [], **value} if has_database and is_later else value
 
 
 def findings(document: bytes, has_database: bool = False) -> list[Finding]:
