@@ -1,6 +1,6 @@
 //! Fetch terms.
 
-ghost use Rattle.std.specs.Prelude.{◌≡◌, ◌-◌, ◌^◌, min, true, IfOk};
+ghost use Rattle.std.specs.Prelude.{◌≡◌, ◌-◌, ◌^◌, ◌↔◌, min, IsTrue, IfOk};
 ghost use Rattle.dl_terms.specs.Tree.{depth_of, depth_of_all, height_of, height_of_all, the_item};
 ghost use Rattle.dl_terms.specs.View.{term_view, terms_view};
 
@@ -106,7 +106,7 @@ impl Term {
 
     /// Whether it is the item of a body.
     pub(crate) fn is_item(&self) -> bool
-        ensures { result ≡ true → term_view self.now ≡ the_item }
+        ensures { IsTrue result ↔ (term_view self.now ≡ the_item) }
     {
         matches!(self, Term::Item)
     }
