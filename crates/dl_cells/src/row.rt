@@ -104,8 +104,8 @@ impl<T: Drop> CellRow<T> {
     /// # Errors
     /// You get `value` back if the cell has one already, or if another thread is just setting it. The reader then knows
     /// what it knew before.
-    // A function of its own, into which the compiler takes the write of the slot: inlined by force, it left the write out of line in
-    // long callers, and each value was moved to it.
+    // Inlined, so that a value is made where it will lie, and not moved there.
+    #[inline(always)]
     pub fn show(&self, i: u32, reader: &mut Reader<T>, value: T) -> Result<(), T>
         requires in_row { i < row_len self.now }
         requires of_cell { reader.old.cell ≡ cell_of self.now i }

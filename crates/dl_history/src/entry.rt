@@ -57,7 +57,7 @@ impl<L: LoaderName> Model for PlacedEvent<L> {
 
 impl<L: LoaderName> PlacedEvent<L> {
     /// Puts an event into its cell of the log. If the log has another event there, you get the event back.
-    // Inlined, so that `Pass::add_event` writes the event into its cell.
+    // Inlined, so that an event is made where it will lie, and not moved there.
     #[inline(always)]
     pub(crate) fn store(
         row: &CellRow<Event>,

@@ -10,7 +10,6 @@ use dl_c_values::codes::{
 use dl_history::{CallFault, CloseFault, StartFault};
 
 /// The code of a refused call.
-#[cold]
 pub fn call_code(fault: CallFault) -> u32
     ensures code { result ≡ call_code fault }
     ensures refused { FRESH < result }

@@ -41,7 +41,7 @@ impl<L: LoaderName> Journal<L> {
     ///
     /// # Errors
     /// `OutOfMemory`, `LogRefused`. The events, the cells and the share are then as they were.
-    // Inlined, so that `Pass::add_event` writes the event into its cell.
+    // Inlined, so that an event is made where it will lie, and not moved there.
     #[inline(always)]
     pub(crate) fn append(
         &mut self,
@@ -131,7 +131,6 @@ impl<L: LoaderName> Journal<L> {
     }
 
     /// Takes back all cells from `first` on.
-    #[cold]
     fn cut_cells(&mut self, first: u32)
         ensures history { self.new.history ≡ self.old.history }
         ensures cells { self.new.cells ≡ take first self.old.cells }

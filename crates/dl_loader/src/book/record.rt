@@ -25,7 +25,7 @@ impl<L: LoaderName> Book<L> {
     /// # Errors
     /// The first of these causes that applies: `Stopped`, `Behind`, `LogFull`, the call's own; else `OutOfMemory` or
     /// `LogRefused`. The book is then as it was, and so are the calls, reads and tickets of the pass.
-    // Inlined, so that the compiler drops what a kind of call does not need.
+    // Inlined, so that an event is made where it will lie, and not moved there.
     #[inline(always)]
     pub(crate) fn record<C: EventCall>(
         &mut self,
