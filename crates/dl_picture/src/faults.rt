@@ -51,14 +51,14 @@ pub(crate) fn faults_after(ends: &[Ends], rounds: usize) -> &[StepFault] {
     &[]
 }
 
-/// The fault of a step, by its origin, unless that is the outcome of a key. You give the number of the step if you know
+/// The fault of a step, by its origin, unless it is the outcome of a key. You give the number of the step if you know
 /// it. Fails if memory runs out.
 pub(crate) fn step_fault(
     alloc: Global,
     number: Option<u64>,
     origin: &Origin<'_>,
 ) -> Result<Option<StepFault>, AllocError> {
-    if matches!(&origin.met, Met::Outcome) {
+    if let EvalFault::Key { .. } | EvalFault::Batch { .. } = &origin.fault {
         return Ok(None);
     }
     let step = step_text(alloc, number, origin.path.as_slice())?;

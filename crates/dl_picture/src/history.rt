@@ -33,9 +33,9 @@ const MOST_FAILURES: u64 = 60;
 /// from left to right, or the calls up to each of its dispatches. A round of a plan says which step and which part of its
 /// term it loads for, and in which fault of the term's own form the step ends with it. Above it are the primes and clears
 /// before it, and below it the batches that it sent, which lines join to their keys: those that have no room there are to
-/// its right. A batch of more than 24 keys has the first 8 of them, and counts of the others. With more than 60 batches, or as many rounds, or calls without plans, in a lane, a lane shows
-/// counts, and the first batches that failed, so the text has less than a megabyte. `hashing` hashes keys, and nothing
-/// that you see depends on it.
+/// its right. A batch of more than 24 keys has the first 8 of them, and counts of the others. With more than 60 batches, or
+/// as many rounds, or calls without plans, in a lane, a lane shows counts, and the first batches that failed, so the text
+/// has less than a megabyte. `hashing` hashes keys, and nothing that you see depends on it.
 ///
 /// # Errors
 /// `AllocError` if memory runs out.

@@ -18,8 +18,8 @@ use std::alloc::{AllocError, Global};
 use std::hash::RandomState;
 
 /// Writes what happened in a history as a trace, as JSON in the Trace Event Format, which Perfetto and chrome://tracing
-/// open. If its callers are plans and workers, the first of them are `plans` plans. Each caller is a thread, and each of
-/// its calls a slice of that thread, with an instant for what became of each key. Each batch is an asynchronous slice, from the
+/// open. If its callers are plans and workers, the first of them are `plans` plans. Each caller is a thread, also one of the
+/// first `named` callers that made no call, and each of its calls a slice of that thread, with an instant for what became of each key. Each batch is an asynchronous slice, from the
 /// dispatch that sent it to its end. There is no clock: a call takes a microsecond, and begins at its place in the
 /// history. The text is linear in the plans, the events and their keys.
 ///
@@ -30,17 +30,18 @@ use std::hash::RandomState;
 /// The trace of a report, from `crates/dl_plans`:
 ///
 /// ```rust
-/// history_trace(alloc, report.history(), Some(plans_of(report)))
+/// history_trace(alloc, report.history(), Some(plans), callers)
 /// ```
 pub fn history_trace(
     alloc: Global,
     history: &History,
     plans: Option<u32>,
+    named: u32,
 ) -> Result<String, AllocError> {
     let mut sheet = Sheet::new(alloc);
     begin_trace(&mut sheet, "requests");
     let events = history.events();
-    for caller in 0..callers(events).max(plans.unwrap_or(0)) {
+    for caller in 0..callers(events).max(named) {
         push_thread(&mut sheet, caller, caller_name(plans, caller));
     }
     for at in 0..events.len() {

@@ -298,7 +298,7 @@ fn output_of_report(
         None
     };
     let trace = match &options.trace {
-        Some(_) => Some(report_trace(alloc, report)?),
+        Some(_) => Some(report_trace(alloc, report, options.workers)?),
         None => None,
     };
     let statistics = statistics_line(alloc, report.history(), names, options)?;

@@ -84,7 +84,7 @@ fn drawn(
         None => None,
     };
     let trace = match &options.trace {
-        Some(_) => Some(history_trace(alloc, history, None)?),
+        Some(_) => Some(history_trace(alloc, history, None, 0)?),
         None => None,
     };
     let text = format!(in alloc; "{history}")?;

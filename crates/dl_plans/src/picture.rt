@@ -34,9 +34,15 @@ pub(crate) fn report_picture(
     history_picture(alloc, hashing, report.history(), Some(terms))
 }
 
-/// The trace of what serving plans left. Fails if memory runs out.
-pub(crate) fn report_trace(alloc: Global, report: &Report) -> Result<String, AllocError> {
-    history_trace(alloc, report.history(), Some(plans_of(report)))
+/// The trace of what serving plans by so many workers left. Fails if memory runs out.
+pub(crate) fn report_trace(
+    alloc: Global,
+    report: &Report,
+    workers: u32,
+) -> Result<String, AllocError> {
+    let plans = plans_of(report);
+    let callers = plans.saturating_add(workers);
+    history_trace(alloc, report.history(), Some(plans), callers)
 }
 
 /// How many plans were served.
