@@ -16,3 +16,4 @@ mod WholeNumbers
 mod PartAnswers
 mod AnswerParts
 pub mod WaitingKeys
+mod NeededKeys

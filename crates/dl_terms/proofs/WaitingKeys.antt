@@ -16,7 +16,7 @@ use Rattle.dl_terms.specs.TermAnswers.{targets_waits, Listed, listed, copy_waits
 -- ---- keys of which something holds
 
 module _ (P : Key → Type 0) where
-  all_append : (ks ls : List Key) → AllByRecursion P ks → AllByRecursion P ls → AllByRecursion P (ks ++ ls)
+  pub all_append : (ks ls : List Key) → AllByRecursion P ks → AllByRecursion P ls → AllByRecursion P (ks ++ ls)
   all_append [] ls h r = r
   all_append (k ∷ ks) ls h r = (h.0, all_append ks ls h.1 r)
 

@@ -40,6 +40,10 @@ WaitsForUnknown = (t : Tree) (p : Pairs) → All (λ k. outcome_in p k ≡ None)
 abbrev pub WaitsOnce : Type 0
 WaitsOnce = (t : Tree) (p : Pairs) → IsDistinct key_eq (frontier t p)
 
+-- and it needs each of them: it gives no answer as long as one has no outcome
+abbrev pub NeedsEach : Type 0
+NeedsEach = (t : Tree) (p q : Pairs) → Gains p q → All (λ k. outcome_in q k ≡ None → answer (outcome_in q) t ≡ None) (frontier t p)
+
 -- a round that begins with no wanted keys leaves exactly those that the term waits for
 abbrev pub WantsFrontier : Type 0
 WantsFrontier = (t : Tree) (p : Pairs) → insert_all key_eq [] (waits (outcome_in p) t) ≡ frontier t p

@@ -13,8 +13,7 @@ pub record MeansSame (p : Key → Option Outcome) (t u : Tree) : Type 0 where
   pub meaning : (q : Key → Option Outcome) → KnowsMore p q → answer q u ≡ answer q t
   pub waiting : (q : Key → Option Outcome) → KnowsMore p q → waits q u ≡ waits q t
 
--- If p and perhaps more is known, the tree u answers and waits as is said. If p suffices for the answer, u is that
--- answer.
+-- If p and perhaps more is known, the tree u answers and waits as is said. u is an answer exactly if p suffices for it.
 pub record Stands (p : Key → Option Outcome) (says : (Key → Option Outcome) → Option Answer)
     (lacks : (Key → Option Outcome) → List Key) (u : Tree) : Type 0 where
   pub meaning : (q : Key → Option Outcome) → KnowsMore p q → answer q u ≡ says q

@@ -36,7 +36,7 @@ module _ (ps : Pairs) where
 
   abbrev mutual
     -- A value gives itself. A pick, follow or each goes on from what its part gives, and so does an over, with the copies
-    -- of its body. All parts give together, as a list or under their names. i is the item of the over around the term.
+    -- of its body. All parts give together, as a list or under their names. i is the item of the over in whose body the term lies.
     pub GivesAt : Option Data → Tree → Answer → Type 0
     GivesAt i (ended a) b = b ≡ a
     GivesAt i (load k) b = LoadGives k b

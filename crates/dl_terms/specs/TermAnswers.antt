@@ -1,5 +1,5 @@
 -- What a term gives, and which keys it waits for, if some keys have their outcomes (Haxl: a computation is `Done` with
--- an answer or `Blocked` on its fetches).
+-- an answer or `Blocked` on its fetches). Unlike Haxl's, a part that fails doesn't keep the parts behind it from loading.
 use Rattle.std.specs.Prelude.{◌≡◌, ℕ, suc, List, [], ◌∷◌, ◌++◌, filter, not, length, Bool, ◌&&◌, nat_le, nat_lt, Option, Some, None, option_map, option_and_then}
 use Rattle.std.specs.Prelude.{if◌then◌else◌}
 use Rattle.serde_json.specs.Data.{Data, array, object, Items, no_items, item}
@@ -95,13 +95,10 @@ abbrev pub with_first : Data → Gathered → Gathered
 with_first d (Gathered.values ds) = Gathered.values (item d ds)
 with_first d (Gathered.fault f) = Gathered.fault f
 
-abbrev pub before_all : Answer → Gathered → Gathered
-before_all (Value d) g = with_first d g
-before_all (Fault f) g = Gathered.fault f
-
 abbrev pub gather : List Answer → Gathered
 gather [] = Gathered.values no_items
-gather (a ∷ rest) = before_all a (gather rest)
+gather (Value d ∷ rest) = with_first d (gather rest)
+gather (Fault f ∷ rest) = Gathered.fault f
 
 -- how the values of parts come together: as a list, or as an object with these names
 pub data Joint : Type 0 where
@@ -149,7 +146,7 @@ abbrev pub listed : Answer → Listed
 listed (Value d) = list_items (as_array d)
 listed (Fault f) = Listed.none f
 
--- the item of the `over` around a term, if one is
+-- the item of the `over` in whose body a term lies, if it lies in one
 abbrev pub item_answer : Option Data → Answer
 item_answer None = Fault why.NoItem
 item_answer (Some d) = Value d

@@ -1,6 +1,6 @@
 //! Laws of what terms give, for every term and all outcomes. Each function does nothing: its contract is the law.
 
-ghost use Rattle.dl_terms.specs.Laws.{GivesOnce, GivesForEver, GivesOrWaits, GivesByDepth, GivesByRules, GivesBySubstitution, WaitsForUnknown, WaitsOnce, WantsFrontier};
+ghost use Rattle.dl_terms.specs.Laws.{GivesOnce, GivesForEver, GivesOrWaits, GivesByDepth, GivesByRules, GivesBySubstitution, NeedsEach, WaitsForUnknown, WaitsOnce, WantsFrontier};
 
 /// A term gives at most one answer.
 pub fn gives_once()
@@ -37,6 +37,11 @@ pub fn gives_by_substitution()
 /// None of the keys that a term waits for has an outcome yet.
 pub fn waits_for_unknown()
     ensures { WaitsForUnknown }
+{}
+
+/// A term needs each key that it waits for: it gives no answer as long as one of them has no outcome.
+pub fn needs_each()
+    ensures { NeedsEach }
 {}
 
 /// A term waits for each key once.

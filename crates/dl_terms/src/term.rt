@@ -59,10 +59,10 @@ pub enum Term {
         part: Box<Term>,
         body: Box<Term>,
     },
-    /// The item, in the body of the nearest `Over` around it.
+    /// The item of the nearest `Over` in whose body it lies.
     Item,
     /// The object of the parts' values. Give it a name for each part, in order: of parts with the same name the first
-    /// counts.
+    /// counts. If several parts fail, the fault is that of the first in the list, whatever its name.
     Object {
         names: Names,
         parts: Vec<Term>,
