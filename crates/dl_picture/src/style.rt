@@ -1,6 +1,6 @@
 //! How a picture looks. Most people who are colour-blind can distinguish its colours, light and dark (Okabe and Ito).
 
-/// The style of every picture. Where it is in a page, its colours are light or dark as the page is.
+/// The style of every picture. In a page its colours are light or dark as the page is.
 pub(crate) static STYLE: &str = "<style>
 svg:root{color-scheme:light dark}
 svg{background:#ffffff}
