@@ -94,9 +94,10 @@ impl fmt::Display for Reply {
     }
 }
 
-// Most events are loads, of which only the key is let go.
+// Out of line, so that an event that the log takes is moved whole. Most are loads, of which only the key is let go.
 impl Drop for Event {
-    #[inline(always)]
+    #[cold]
+    #[inline(never)]
     fn drop(self) {
         let Event {
             caller: _,

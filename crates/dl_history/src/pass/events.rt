@@ -19,8 +19,8 @@ impl<L: LoaderName> Pass<L> {
     /// # Errors
     /// `OutOfMemory`; `LogRefused` if the log's cell has another event. The events and the cells of the journal, and
     /// the entries and the tickets of the pass, are then as they were.
-    // A function of its own, so short that the compiler takes the write of the cell into it. Of a longer one it leaves that out.
-    #[inline(never)]
+    // Inlined, so that an event is made where it will lie.
+    #[inline(always)]
     pub fn add_event(
         &mut self,
         rows: &CellRows<L>,
