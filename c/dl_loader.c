@@ -56,6 +56,16 @@ static void leave(dl_loader *loader)
 #endif
 }
 
+static void leave_held(dl_loader **held)
+{
+    leave(*held);
+}
+
+/* Takes the lock for the rest of a block. */
+#define HELD(loader) \
+    __attribute__((cleanup(leave_held))) dl_loader *held = (loader); \
+    enter(held)
+
 /* ---- open and free */
 
 /* Makes so many conditions, of the clock that deadlines are of. How many were made. */
@@ -176,10 +186,8 @@ void dl_loader_free(dl_loader *loader)
 
 dl_ticket dl_loader_load(dl_loader *loader, uint32_t caller, DL_KEY)
 {
-    enter(loader);
-    dl_ticket answer = dl_serial_load(&loader->serial, caller, table, table_len, id, id_len);
-    leave(loader);
-    return answer;
+    HELD(loader);
+    return dl_serial_load(&loader->serial, caller, table, table_len, id, id_len);
 }
 
 uint32_t dl_loader_load_many(dl_loader *loader, uint32_t caller, const uint8_t *texts, size_t texts_len,
