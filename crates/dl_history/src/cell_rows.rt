@@ -7,7 +7,8 @@ ghost use Rattle.dl_values.specs.Limits.{AreLimits};
 use crate::flags::Flags;
 use crate::name::LoaderName;
 use dl_cells::{CellRow, Flag};
-use dl_desk::{Ending, Event, Limits};
+use crate::stored::StoredEvent;
+use dl_desk::{Ending, Limits};
 use std::marker::{Model, PhantomData};
 
 /// The rows of one loader: a cell for each event that it may have, a cell for each outcome, and its flags. Contracts
@@ -15,7 +16,7 @@ use std::marker::{Model, PhantomData};
 #[derive(Drop)]
 pub struct CellRows<L: LoaderName> {
     limits: Limits,
-    log: CellRow<Event>,
+    log: CellRow<StoredEvent>,
     outcomes: CellRow<Ending>,
     flags: Flags,
     of: PhantomData<L>,
@@ -37,7 +38,7 @@ impl<L: LoaderName> CellRows<L> {
     /// The rows of the loader that `L` names. They must have room for all that these limits allow.
     pub fn new(
         limits: Limits,
-        log: CellRow<Event>,
+        log: CellRow<StoredEvent>,
         outcomes: CellRow<Ending>,
         flags: Flags,
     ) -> CellRows<L>
@@ -74,7 +75,7 @@ impl<L: LoaderName> CellRows<L> {
     }
 
     /// The row of the events.
-    pub(crate) fn log(&self) -> &CellRow<Event>
+    pub(crate) fn log(&self) -> &CellRow<StoredEvent>
         ensures row { result.now ≡ L.cells.log }
         ensures calls { row_len L.cells.log ≡ L.service.rules.limits.max_calls }
     {
@@ -104,7 +105,7 @@ impl<L: LoaderName> CellRows<L> {
     }
 
     /// Takes the rows apart into the row of the events and the row of the outcomes.
-    pub(crate) fn into_parts(self) -> (CellRow<Event>, CellRow<Ending>)
+    pub(crate) fn into_parts(self) -> (CellRow<StoredEvent>, CellRow<Ending>)
         ensures log { result.0 ≡ L.cells.log }
         ensures outcomes { result.1 ≡ L.cells.outcomes }
         ensures cells { row_len L.cells.outcomes ≡ L.service.rules.limits.max_cells }

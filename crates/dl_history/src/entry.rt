@@ -9,7 +9,8 @@ ghost use Rattle.dl_history.specs.Journal.{IsKnown};
 use crate::journal::Journal;
 use crate::name::LoaderName;
 use dl_cells::{CellRow, Reader};
-use dl_desk::{Ending, Event};
+use crate::stored::StoredEvent;
+use dl_desk::Ending;
 use std::fmt;
 use std::marker::{Model, PhantomData};
 
@@ -36,7 +37,7 @@ impl fmt::Display for EntryKind {
 #[derive(Drop)]
 pub struct PlacedEvent<L: LoaderName> {
     at: u16,
-    reader: Reader<Event>,
+    reader: Reader<StoredEvent>,
     of: PhantomData<L>,
 }
 
@@ -60,11 +61,11 @@ impl<L: LoaderName> PlacedEvent<L> {
     // Inlined, so that `Pass::add_event` writes the event into its cell.
     #[inline(always)]
     pub(crate) fn store(
-        row: &CellRow<Event>,
+        row: &CellRow<StoredEvent>,
         at: u16,
-        reader: &mut Reader<Event>,
-        event: Event,
-    ) -> Result<PlacedEvent<L>, Event>
+        reader: &mut Reader<StoredEvent>,
+        event: StoredEvent,
+    ) -> Result<PlacedEvent<L>, StoredEvent>
         requires row { row.now ≡ L.cells.log }
         requires in_row { at < row_len L.cells.log }
         requires of_cell { reader.old.cell ≡ cell_of L.cells.log at }
@@ -88,7 +89,7 @@ impl<L: LoaderName> PlacedEvent<L> {
     }
 
     /// A reader of the event's cell, which knows the event.
-    pub(crate) fn reader(&self) -> Reader<Event>
+    pub(crate) fn reader(&self) -> Reader<StoredEvent>
         ensures known { IsKnown L.cells.log self.now.at result }
         ensures event { event_known result.known ≡ self.now.event }
     {
@@ -97,7 +98,7 @@ impl<L: LoaderName> PlacedEvent<L> {
     }
 
     /// A reader of the event's cell that knows an event knows this one, whichever threads have the two.
-    pub(crate) fn agree(&self, reader: &Reader<Event>)
+    pub(crate) fn agree(&self, reader: &Reader<StoredEvent>)
         requires { reader.now.cell ≡ cell_of L.cells.log self.now.at }
         ensures { IfSome reader.now.known (λ event. event ≡ self.now.event) }
     {

@@ -4,14 +4,14 @@ ghost use Rattle.std.specs.Prelude.{◌≡◌, length, option_copied, slice_get}
 ghost use Rattle.dl_history.specs.Journal.{AreKnown, events_known};
 
 use dl_cells::{CellRow, Reader};
-use dl_desk::Event;
+use crate::stored::StoredEvent;
 use std::marker::Model;
 
 /// The events of a closed loader, in order, each in its cell of the log. Contracts see the list.
 #[derive(Drop)]
 pub struct Events {
-    log: CellRow<Event>,
-    readers: Vec<Reader<Event>>,
+    log: CellRow<StoredEvent>,
+    readers: Vec<Reader<StoredEvent>>,
 }
 
 impl Model for Events {
@@ -32,7 +32,7 @@ impl Model for Events {
 
 impl Events {
     /// The events that the readers of a log know.
-    pub(crate) fn new(log: CellRow<Event>, readers: Vec<Reader<Event>>) -> Events
+    pub(crate) fn new(log: CellRow<StoredEvent>, readers: Vec<Reader<StoredEvent>>) -> Events
         requires { AreKnown log readers.items }
         ensures { result ≡ events_known readers.items }
     {
@@ -47,7 +47,7 @@ impl Events {
     }
 
     /// The event at a place, if there is one.
-    pub fn get(&self, at: usize) -> Option<&Event>
+    pub fn get(&self, at: usize) -> Option<&StoredEvent>
         ensures { option_copied result ≡ slice_get self.now at }
     {
         let reader = self.readers.get(at)?;

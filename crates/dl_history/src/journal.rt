@@ -15,7 +15,8 @@ use crate::events::Events;
 use crate::name::LoaderName;
 pub use append::AppendFault;
 use dl_cells::Reader;
-use dl_desk::{Ending, Event};
+use crate::stored::StoredEvent;
+use dl_desk::Ending;
 use std::alloc::{AllocError, Global};
 use std::marker::Model;
 use std::sync::ledger;
@@ -25,7 +26,7 @@ use std::sync::ledger::Share;
 /// the room for more of both.
 #[derive(Drop)]
 pub struct Journal<L: LoaderName> {
-    log: Vec<Reader<Event>>,
+    log: Vec<Reader<StoredEvent>>,
     states: Vec<CellState>,
     calls: ledger::Book<L>,
 }

@@ -24,6 +24,7 @@ pub mod laws;
 mod name;
 mod outline;
 mod pass;
+mod stored;
 mod ticket;
 
 pub use cell_rows::CellRows;
@@ -38,4 +39,5 @@ pub use journal::{AppendFault, Journal};
 pub use name::LoaderName;
 pub use outline::Outline;
 pub use pass::Pass;
+pub use stored::{CallView, ReplyView, StoredEvent};
 pub use ticket::{Ticket, load_cell};

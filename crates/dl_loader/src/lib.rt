@@ -28,7 +28,7 @@ mod waiter;
 pub use ask::{Ask, GiveUp};
 pub use book::Book;
 pub use dl_history::{
-    Batches, Call, CallFault, CloseFault, EndedBatch, Ending, Entry, EntryKind, Event, Events,
+    Batches, Call, CallFault, CallView, ReplyView, StoredEvent, CloseFault, EndedBatch, Ending, Entry, EntryKind, Event, Events,
     History, Jobs, LoaderName, Pass, Replies, Reply, Shared, StartFault, Stopped, Ticket,
 };
 pub use job_end::{end_job, end_jobs};

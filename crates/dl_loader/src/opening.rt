@@ -7,7 +7,7 @@ ghost use Rattle.dl_loader.specs.Opening.{AreCallers, RefusedAs};
 
 use dl_cells::CellRow;
 use dl_desk::{Limits, TableLimits};
-use dl_history::{Ending, Event, Flags, StartFault};
+use dl_history::{Ending, Flags, StartFault, StoredEvent};
 use dl_source::Source;
 use std::alloc::Global;
 use std::hash::RandomState;
@@ -40,7 +40,7 @@ pub struct Opening<'s, S: Source> {
     // If each batch is of one table.
     pub(crate) tables: Option<TableLimits>,
     pub(crate) callers: u32,
-    pub(crate) log: CellRow<Event>,
+    pub(crate) log: CellRow<StoredEvent>,
     pub(crate) outcomes: CellRow<Ending>,
     pub(crate) flags: Flags,
     pub(crate) blank: Blank,
@@ -149,7 +149,7 @@ fn rows(
     alloc: Global,
     limits: Limits,
     callers: u32,
-) -> Result<(CellRow<Event>, CellRow<Ending>), StartFault>
+) -> Result<(CellRow<StoredEvent>, CellRow<Ending>), StartFault>
     ensures log { IfOk result (λ rows. row_len rows.0 ≡ limits.max_calls) }
     ensures outcomes { IfOk result (λ rows. row_len rows.1 ≡ limits.max_cells) }
     ensures accepted { OnOk result (AreCallers callers) }

@@ -141,6 +141,14 @@ impl Handle {
     }
 }
 
+impl Handle {
+    /// Puts back what is kept, in a handle that keeps nothing.
+    pub fn reopen(&mut self, held: HeldOf<Brand>) {
+        self.held = Held::pack(held);
+        self.is_open = true;
+    }
+}
+
 /// A value of a type that may cross threads, as a handle may.
 fn crossing<T: Send>(value: T) -> T
     ensures { result ≡ value }

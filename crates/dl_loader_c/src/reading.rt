@@ -12,7 +12,7 @@ use dl_c_values::box_parts::BoxParts;
 use dl_c_values::codes::{CLOSED, DONE, FRESH, HIT, NO_EVENT, NO_MEMBER, OPEN};
 use dl_c_values::key_texts::KeyTexts;
 use dl_desk::FetchKey;
-use dl_history::{Call, EntryKind, Event, History, Reply};
+use dl_history::{CallView, EntryKind, History, ReplyView, StoredEvent};
 use dl_loader::LoaderName;
 use std::alloc::Global;
 use std::marker::Brand;
@@ -55,7 +55,7 @@ pub extern "C" fn dl_serial_event(alloc: Global, handle: &mut Handle, at: u32) -
         return ToldEvent::none(CLOSED);
     };
     let (held, answer) = event::<Brand>(held, at);
-    *handle = Handle::opened(held);
+    handle.reopen(held);
     answer
 }
 
@@ -102,7 +102,7 @@ pub extern "C" fn dl_serial_event_key(
         return Loaded::refused(CLOSED);
     };
     let (held, answer) = event_key::<Brand>(held, at, index, texts);
-    *handle = Handle::opened(held);
+    handle.reopen(held);
     answer
 }
 
@@ -131,10 +131,10 @@ fn key_at(history: &History, at: u32, index: usize, texts: &mut KeyTexts) -> Loa
     let Some(event) = history.events().get(at as usize) else {
         return Loaded::refused(NO_EVENT);
     };
-    let Some(key) = keys_of(&event.call).get(index) else {
+    let Some(key) = keys_of(event.call()).get(index) else {
         return Loaded::refused(NO_MEMBER);
     };
-    let answer = reply_to(&event.reply, index);
+    let answer = reply_to(event.reply(), index);
     if answer.code <= FRESH {
         texts.copy_from(key);
     }
@@ -159,7 +159,7 @@ pub extern "C" fn dl_serial_entry(
         return ToldEntry::none(CLOSED);
     };
     let (held, answer) = entry::<Brand>(held, caller, index);
-    *handle = Handle::opened(held);
+    handle.reopen(held);
     answer
 }
 
@@ -200,16 +200,16 @@ impl ToldEvent {
         }
     }
 
-    fn of(event: &Event) -> ToldEvent
+    fn of(event: &StoredEvent) -> ToldEvent
         ensures { result ≡ event_as event.now }
     {
-        let (batch, batches) = batches_of(&event.call, &event.reply);
+        let (batch, batches) = batches_of(event.call(), event.reply());
         ToldEvent {
             code: DONE,
-            caller: event.caller,
-            call: number_of(&event.call),
+            caller: event.caller(),
+            call: number_of(event.call()),
             batch,
-            keys: keys_of(&event.call).len(),
+            keys: keys_of(event.call()).len(),
             batches,
         }
     }
@@ -248,51 +248,51 @@ impl ToldEntry {
 }
 
 /// The number of a call's kind.
-fn number_of(call: &Call) -> u32
-    ensures { result ≡ call_number call.now }
+fn number_of(call: CallView<'_>) -> u32
+    ensures { result ≡ call_number call }
 {
     match call {
-        Call::Load(_) => 0,
-        Call::LoadMany(_) => 1,
-        Call::Prime(..) => 2,
-        Call::Clear(_) => 3,
-        Call::ClearAll => 4,
-        Call::Dispatch => 5,
-        Call::Settle { .. } => 6,
-        Call::Fail { .. } => 7,
+        CallView::Load(_) => 0,
+        CallView::LoadMany(_) => 1,
+        CallView::Prime(..) => 2,
+        CallView::Clear(_) => 3,
+        CallView::ClearAll => 4,
+        CallView::Dispatch => 5,
+        CallView::Settle { .. } => 6,
+        CallView::Fail { .. } => 7,
     }
 }
 
 /// The keys of a call.
-fn keys_of(call: &Call) -> &[FetchKey]
-    ensures { result.now ≡ keys_told call.now }
+fn keys_of(call: CallView<'_>) -> &[FetchKey]
+    ensures { result.now ≡ keys_told call }
 {
     match call {
-        Call::Load(key) => slice::from_ref(key),
-        Call::LoadMany(keys) => keys.as_slice(),
-        Call::Prime(key, _) => slice::from_ref(key),
-        Call::Clear(key) => slice::from_ref(key),
-        Call::ClearAll | Call::Dispatch | Call::Settle { .. } | Call::Fail { .. } => &[],
+        CallView::Load(key) => slice::from_ref(key),
+        CallView::LoadMany(keys) => keys.as_slice(),
+        CallView::Prime(key, _) => slice::from_ref(key),
+        CallView::Clear(key) => slice::from_ref(key),
+        CallView::ClearAll | CallView::Dispatch | CallView::Settle { .. } | CallView::Fail { .. } => &[],
     }
 }
 
 /// The batches that a call ends or sends: the first of them, and how many they are.
-fn batches_of(call: &Call, reply: &Reply) -> (u32, usize)
-    ensures { result ≡ batches_told call.now reply.now }
+fn batches_of(call: CallView<'_>, reply: ReplyView<'_>) -> (u32, usize)
+    ensures { result ≡ batches_told call reply }
 {
     match call {
-        Call::Settle { batch, .. } => (*batch, 1),
-        Call::Fail { batch, .. } => (*batch, 1),
+        CallView::Settle { batch, .. } => (batch, 1),
+        CallView::Fail { batch, .. } => (batch, 1),
         _ => sent_in(reply),
     }
 }
 
 /// The batches that a reply sends.
 #[tactic(auto, using(dl_c_values::proofs::Rows::first_of_some, dl_c_values::proofs::Rows::first_of_none))]
-fn sent_in(reply: &Reply) -> (u32, usize)
-    ensures { result ≡ batches_sent reply.now }
+fn sent_in(reply: ReplyView<'_>) -> (u32, usize)
+    ensures { result ≡ batches_sent reply }
 {
-    let Reply::Sent(jobs) = reply else {
+    let ReplyView::Sent(jobs) = reply else {
         return (0, 0);
     };
     let jobs = jobs.as_slice();
@@ -303,21 +303,21 @@ fn sent_in(reply: &Reply) -> (u32, usize)
 }
 
 /// What a reply answers to the key of an index.
-fn reply_to(reply: &Reply, index: usize) -> Loaded
-    ensures { result ≡ reply_as reply.now index }
+fn reply_to(reply: ReplyView<'_>, index: usize) -> Loaded
+    ensures { result ≡ reply_as reply index }
 {
     match reply {
-        Reply::Loaded(reply) => Loaded::of_load(*reply),
-        Reply::Many(replies) => match replies.as_slice().get(index) {
+        ReplyView::Loaded(reply) => Loaded::of_load(reply),
+        ReplyView::Many(replies) => match replies.as_slice().get(index) {
             Some(reply) => Loaded::of_load(*reply),
             None => Loaded::refused(NO_MEMBER),
         },
-        Reply::Primed(cell) => Loaded {
+        ReplyView::Primed(cell) => Loaded {
             code: FRESH,
-            cell: *cell,
+            cell,
             batch: 0,
         },
-        Reply::Kept => Loaded::refused(HIT),
-        Reply::Done | Reply::Sent(_) => Loaded::refused(DONE),
+        ReplyView::Kept => Loaded::refused(HIT),
+        ReplyView::Done | ReplyView::Sent(_) => Loaded::refused(DONE),
     }
 }

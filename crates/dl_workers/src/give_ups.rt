@@ -5,7 +5,7 @@ ghost use Rattle.dl_loader.specs.CloseRefusals.{IsLeastOf};
 ghost use Rattle.dl_workers.specs.GiveUps.{given_up, given_up_by};
 
 use dl_desk::BatchFault;
-use dl_loader::{Call, History};
+use dl_loader::{CallView, History};
 
 /// The least batch that was given up, because memory ran out or its job was not sent. Returns `None` if none was.
 pub fn least_given_up(history: &History) -> Option<u32>
@@ -15,21 +15,21 @@ pub fn least_given_up(history: &History) -> Option<u32>
     let mut least = None;
     for at in 0..events.len() {
         if let Some(event) = events.get(at) {
-            least = least_with(least, &event.call);
+            least = least_with(least, event.call());
         }
     }
     least
 }
 
 /// The least of the batches so far and the one that this call gives up, if it does.
-fn least_with(found: Option<u32>, call: &Call) -> Option<u32>
-    ensures { (ns : List ℕ) → IsLeastOf found ns → IsLeastOf result (ns ++ given_up_by call.now) }
+fn least_with(found: Option<u32>, call: CallView<'_>) -> Option<u32>
+    ensures { (ns : List ℕ) → IsLeastOf found ns → IsLeastOf result (ns ++ given_up_by call) }
 {
     match call {
-        Call::Fail {
+        CallView::Fail {
             batch,
             fault: BatchFault::Memory | BatchFault::Unsent,
-        } => Some(least_of(found, *batch)),
+        } => Some(least_of(found, batch)),
         _ => found,
     }
 }

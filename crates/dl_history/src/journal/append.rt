@@ -13,7 +13,8 @@ use crate::entry::PlacedEvent;
 use crate::journal::Journal;
 use crate::name::LoaderName;
 use dl_cells::{CellRow, Reader};
-use dl_desk::{Ending, Event};
+use crate::stored::StoredEvent;
+use dl_desk::Ending;
 use std::alloc::AllocError;
 use std::sync::ledger::Share;
 
@@ -47,7 +48,7 @@ impl<L: LoaderName> Journal<L> {
         &mut self,
         rows: &CellRows<L>,
         share: &mut Share<L>,
-        event: Event,
+        event: StoredEvent,
         cells: u32,
     ) -> Result<PlacedEvent<L>, AppendFault>
         requires room { length self.old.history < L.service.rules.limits.max_calls }
@@ -82,7 +83,7 @@ impl<L: LoaderName> Journal<L> {
         place: u16,
         first: u32,
         cells: u32,
-    ) -> Result<Reader<Event>, AllocError>
+    ) -> Result<Reader<StoredEvent>, AllocError>
         requires place { place < L.service.rules.limits.max_calls }
         requires first { first ≡ length self.old.cells }
         requires in_row { first + cells ≤ L.service.rules.limits.max_cells }

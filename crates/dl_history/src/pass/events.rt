@@ -9,7 +9,7 @@ use crate::entry::Entry;
 use crate::journal::{AppendFault, Journal};
 use crate::name::LoaderName;
 use crate::pass::Pass;
-use dl_desk::Event;
+use crate::stored::StoredEvent;
 
 impl<L: LoaderName> Pass<L> {
     /// Adds an event of this caller to the journal, with the cells that it begins, and to the entries, which have room
@@ -19,13 +19,13 @@ impl<L: LoaderName> Pass<L> {
     /// # Errors
     /// `OutOfMemory`; `LogRefused` if the log's cell has another event. The events and the cells of the journal, and
     /// the entries and the tickets of the pass, are then as they were.
-    // A function of its own, so short that the compiler takes the write of the cell into it. Of a longer one it leaves that out.
-    #[inline(never)]
+    // Inlined, so that an event is made where it will lie.
+    #[inline(always)]
     pub fn add_event(
         &mut self,
         rows: &CellRows<L>,
         journal: &mut Journal<L>,
-        event: Event,
+        event: StoredEvent,
         cells: u32,
     ) -> Result<(), AppendFault>
         requires pass_room { 0 < self.old.spare }

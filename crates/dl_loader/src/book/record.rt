@@ -14,7 +14,7 @@ use crate::dues::{count, give};
 use crate::event_call::{EventCall, Prepared};
 use crate::load_replies::begun_in;
 use crate::reply::Settled;
-use dl_history::{CallFault, CellRows, Event, LoaderName, Pass};
+use dl_history::{CallFault, CellRows, LoaderName, Pass, StoredEvent};
 use std::alloc::Global;
 use std::sync::Wait;
 
@@ -53,11 +53,7 @@ impl<L: LoaderName> Book<L> {
             answer,
         } = prepared;
         let cells = begun_in(rows, &reply);
-        let event = Event {
-            caller,
-            call: copy,
-            reply,
-        };
+        let event = StoredEvent::new(alloc, caller, copy, reply)?;
         let loads = C::loads(&answer);
         pass.reserve(loads.len())?;
         pass.add_event(rows, &mut self.journal, event, cells)?;
