@@ -30,8 +30,9 @@ fn the_most_keys_are_made_ready(rt: HostRuntime) {
     let keys = numbered_keys(rt.alloc(), MOST).expect(&rt, "no keys");
     for (max_batch, batches) in &SIZES {
         let mut desk = new_desk(&rt, rt.alloc(), *max_batch, MOST);
-        let made = make_most(&rt, rt.alloc(), &mut desk, keys.as_slice());
-        assert_is!(&rt, &made, &(MOST as usize, *batches), "loads and jobs");
+        let (loads, jobs) = make_most(&rt, rt.alloc(), &mut desk, keys.as_slice());
+        assert_is!(&rt, &loads, &(MOST as usize), "loads");
+        assert_is!(&rt, &jobs, batches, "jobs");
     }
 }
 

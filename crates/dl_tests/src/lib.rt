@@ -5,8 +5,8 @@
 //! tests compare, and what they ask of the library below them, which refuses a call its n-th growth or thread.
 //!
 //! The tests here are of what no contract says. Cells show what somebody has set, whatever threads do. A desk takes the
-//! most keys that it may have. The reference loader replies. And a call that ran out of memory answers as ever when you
-//! make it again. Documents and calls of the C library test keys, limits, tables and terms from outside.
+//! most keys that it may have. The reference loader replies. And a call that ran out of memory succeeds when you make it
+//! again. Documents and calls of the C library test keys, limits, tables and terms from outside.
 #![tactic(auto)]
 
 #[cfg(test)]

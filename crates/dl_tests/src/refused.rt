@@ -1,8 +1,7 @@
 //! The calls that need no loader, each with its first growth refused, then with the second, and so on until nothing is.
 //!
-//! A call is then out of memory or answers as ever. If it was out of memory, the same call answers as ever the next
-//! time. `tests/calls` runs this above `tests/refuse.c`. Without that library nothing is refused, and each call happens
-//! once.
+//! A call is then out of memory or succeeds. If it was out of memory, the same call succeeds the next time. `tests/calls`
+//! runs this above `tests/refuse.c`. Without that library nothing is refused, and each call happens once.
 
 mod cells;
 mod desk;

@@ -1,7 +1,8 @@
-//! Keys, texts, values and limits of tables.
+//! Keys, texts, values and limits of tables: a call that ran out of memory succeeds the next time. What it then gives is
+//! in its contract.
 
 use crate::refused::Stage;
-use crate::{assert_is, json, made, made_once, outcome_text};
+use crate::{json, made, made_once};
 use dl_desk::{
     BatchFault, FetchKey, Job, Json, KeyFault, Keys, List, Message, Outcome, TableLimit,
     TableLimitFault, TableLimits, Text,
@@ -32,9 +33,7 @@ impl<R: Abort + Eprint> Stage<'_, R> {
         self.use_outcomes();
         let limits = self.limit_of("t", 7);
         let copy = made_once!(self, "TableLimits::try_copy", limits.try_copy());
-        let copy = copy.expect(self.rt, "no copy");
-        assert_is!(self.rt, &copy.limit("t"), &Some(7), "a limit");
-        assert_is!(self.rt, &copy.limit("s"), &None, "no limit");
+        assert!(self.rt; copy.is_ok(), "no copy");
     }
 
     fn use_keys(&self) {
@@ -50,11 +49,11 @@ impl<R: Abort + Eprint> Stage<'_, R> {
         );
         let keys = keys.expect(self.rt, "no list");
         let copy = made_once!(self, "Keys::try_copy", keys.try_copy());
-        self.use_job(&key, copy.expect(self.rt, "no copy"));
+        self.use_job(copy.expect(self.rt, "no copy"));
     }
 
-    /// The calls of a job with these keys, the first of which is `key`.
-    fn use_job(&self, key: &FetchKey, keys: Keys) {
+    /// The calls of a job with these keys.
+    fn use_job(&self, keys: Keys) {
         let job = Job { batch: 7, keys };
         let copy = made_once!(self, "Job::try_copy", job.try_copy());
         let job = copy.expect(self.rt, "no copy");
@@ -64,26 +63,21 @@ impl<R: Abort + Eprint> Stage<'_, R> {
             Err(_),
             List::<Job>::copy_of(self.alloc, slice::from_ref(&job))
         );
-        let jobs = jobs.expect(self.rt, "no list");
-        for job in jobs.as_slice() {
-            assert!(self.rt; job.keys.as_slice().first() == Some(key), "a job");
-        }
+        assert!(self.rt; jobs.is_ok(), "no list");
     }
 
     fn use_texts(&self) {
         let text = made!(self, "Text::new", Err(_), Text::new(self.alloc, "db"));
         let text = text.expect(self.rt, "no text");
         let copy = made!(self, "Text::try_copy", Err(_), text.try_copy());
-        let copy = copy.expect(self.rt, "no copy");
-        assert_is!(self.rt, &copy.as_str(), &"db", "a copy");
+        assert!(self.rt; copy.is_ok(), "no copy");
         let marked = made!(
             self,
             "Text::marked",
             Err(_),
             Text::marked(self.alloc, b'd', "b", " down")
         );
-        let marked = marked.expect(self.rt, "no text");
-        assert_is!(self.rt, &marked.as_str(), &"db down", "two texts");
+        assert!(self.rt; marked.is_ok(), "no text");
     }
 
     /// Makes a value and its text.
@@ -98,8 +92,7 @@ impl<R: Abort + Eprint> Stage<'_, R> {
         let copy = made_once!(self, "Json::try_copy", json.try_copy());
         let copy = copy.expect(self.rt, "no copy");
         let text = made!(self, "Json::to_text", Err(_), copy.to_text(self.alloc));
-        let text = text.expect(self.rt, "no text");
-        assert_is!(self.rt, &text.as_str(), &"true", "a value");
+        assert!(self.rt; text.is_ok(), "no text");
     }
 
     /// Takes a value out while somebody else shares it.
@@ -111,8 +104,7 @@ impl<R: Abort + Eprint> Stage<'_, R> {
             Err(_),
             self.copy(&list).into_value()
         );
-        let value = value.expect(self.rt, "no value");
-        assert!(self.rt; matches!(value, Value::Array(_)), "a value");
+        assert!(self.rt; value.is_ok(), "no value");
     }
 
     fn copy(&self, json: &Json) -> Json {
@@ -132,9 +124,7 @@ impl<R: Abort + Eprint> Stage<'_, R> {
         let copy = made_once!(self, "BatchFault::try_copy", fault.try_copy());
         let outcome = Outcome::BatchFailed(copy.expect(self.rt, "no copy"));
         let copy = made_once!(self, "Outcome::try_copy", outcome.try_copy());
-        let copy = copy.expect(self.rt, "no copy");
-        let text = outcome_text(self.alloc, &copy).expect(self.rt, "no memory");
-        assert_is!(self.rt, &text.as_str(), &"batch db down", "an outcome");
+        assert!(self.rt; copy.is_ok(), "no copy");
     }
 
     /// The limit of one table.
