@@ -27,15 +27,19 @@ enum End {
 impl Fate {
     /// The marks of a load of the cell, of which the first says what the load did.
     pub(crate) fn badges(&self, mark: Mark) -> Badges {
-        let failure = match &self.end {
-            End::Outcome(Outcome::KeyError(_)) => Some(Mark::KeyError),
-            End::Outcome(Outcome::BatchFailed(_)) | End::Failed => Some(Mark::Failed),
-            End::Outcome(Outcome::Value(_)) | End::Open => None,
-        };
         Badges {
             mark,
             is_primed: self.is_primed,
-            failure,
+            failure: self.failure(),
+        }
+    }
+
+    /// The mark of its failure, if it failed.
+    pub(crate) fn failure(&self) -> Option<Mark> {
+        match &self.end {
+            End::Outcome(Outcome::KeyError(_)) => Some(Mark::KeyError),
+            End::Outcome(Outcome::BatchFailed(_)) | End::Failed => Some(Mark::Failed),
+            End::Outcome(Outcome::Value(_)) | End::Open => None,
         }
     }
 

@@ -8,7 +8,7 @@ use crate::mark::{MARKS, Mark};
 use crate::phrase::Phrase;
 use crate::sheet::Sheet;
 use crate::style::STYLE;
-use crate::tally::Tally;
+use crate::tally::{MOST_COUNTS, Tally};
 use std::alloc::{AllocError, Global};
 
 /// How wide a drawing is at least, in pixels.
@@ -26,7 +26,7 @@ const GUTTER: u64 = 22;
 const GAP: u64 = 8;
 
 /// How high a place may be with a further batch. If it would be higher, the batch is in the next place.
-const MOST_FILLED: u64 = 920;
+const MOST_FILLED: u64 = 960;
 
 /// What the number in front of a part of a term is.
 const STEP_MEANING: &str = "eval N: step N of its plan, from 0";
@@ -49,6 +49,8 @@ pub(crate) struct Drawing {
     pub(crate) legend: u64,
     /// How many failed batches it still has room for, if it shows counts.
     pub(crate) failures: u64,
+    /// With how many counts a column takes no further texts of errors.
+    pub(crate) counts: usize,
     place: u64,
     columns: u64,
     filled: u64,
@@ -69,6 +71,7 @@ impl Drawing {
             tiles: 0,
             legend: 0,
             failures: 0,
+            counts: MOST_COUNTS,
             place: 0,
             columns: 0,
             filled: 0,
@@ -135,8 +138,8 @@ impl Drawing {
     }
 
     /// The counts of lines.
-    fn tally_of(&mut self, lines: Lines<'_>) -> Tally {
-        let mut tally = Tally::new(self.sheet.alloc);
+    fn tally_of<'l>(&mut self, lines: Lines<'l>) -> Tally<'l> {
+        let mut tally = Tally::new(self.sheet.alloc, self.counts);
         let counted = tally.add_lines(lines);
         self.sheet.note(counted);
         tally
@@ -246,7 +249,7 @@ impl Drawing {
 /// Appends the beginning of a document of this width and height, with its style and its ground.
 fn push_ground(sheet: &mut Sheet, width: u64, height: u64) {
     sheet.push_form(
-        "<svg xmlns='http://www.w3.org/2000/svg' width='#' height='#' viewBox='0 0 # #'>\n",
+        "<svg class='thrushscreen' xmlns='http://www.w3.org/2000/svg' width='#' height='#' viewBox='0 0 # #'>\n",
         &[width, height, width, height],
     );
     sheet.push(STYLE);

@@ -28,7 +28,7 @@ pub(crate) fn rounds_a_column(lanes: u32, rounds: usize) -> usize {
 struct Fold<'a> {
     first: usize,
     last: usize,
-    tally: Tally,
+    tally: Tally<'a>,
     failed: Vec<&'a Job>,
 }
 
@@ -51,7 +51,7 @@ pub(crate) fn fold_calls(
     let mut fold = Fold {
         first: 0,
         last: 0,
-        tally: Tally::new(drawing.sheet.alloc),
+        tally: Tally::new(drawing.sheet.alloc, drawing.counts),
         failed: Vec::new(drawing.sheet.alloc),
     };
     let mut place: u64 = 0;

@@ -64,7 +64,8 @@ pub(crate) fn add_count(drawing: &mut Drawing, name: &str, words: &'static str, 
     add_tile(drawing, name, words, Phrase::Numbered("", count, ""));
 }
 
-/// Adds a tile: a number, the name by which a program finds it in the picture, and words for what it is.
+/// Adds a tile: a number, the name by which a program finds it in the picture, and words for what it is. The name is no
+/// id, since a page may have several pictures.
 fn add_tile(drawing: &mut Drawing, name: &str, words: &'static str, figure: Phrase) {
     let (place, y) = (drawing.tiles, drawing.height);
     drawing.tiles = place.saturating_add(1);
@@ -72,7 +73,7 @@ fn add_tile(drawing: &mut Drawing, name: &str, words: &'static str, figure: Phra
     let left = x.saturating_add(10);
     let sheet = &mut drawing.sheet;
     sheet.push_form(
-        "<rect class='card' x='#' y='#' width='#' height='#' rx='6'/><text class='figure' id='",
+        "<rect class='card' x='#' y='#' width='#' height='#' rx='6'/><text class='figure' data-name='",
         &[x, y, TILE_WIDTH, TILE_HEIGHT],
     );
     sheet.push(name);

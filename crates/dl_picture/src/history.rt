@@ -33,9 +33,9 @@ const MOST_FAILURES: u64 = 60;
 /// from left to right, or the calls up to each of its dispatches. A round of a plan says which step and which part of its
 /// term it loads for, and in which fault of the term's own form the step ends with it. Above it are the primes and clears
 /// before it, and below it the batches that it sent, which lines join to their keys: those that have no room there are to
-/// its right. A batch of more than 24 keys has the first 8 of them, and counts of the others. With more than 60 batches, or
-/// as many rounds, or calls without plans, in a lane, a lane shows counts, and the first batches that failed, so the text
-/// has less than a megabyte. `hashing` hashes keys, and nothing that you see depends on it.
+/// its right. A batch of more than 24 keys has the first 8 of them, and counts of the others, by their errors too. With
+/// more than 60 batches, or as many rounds, or calls without plans, in a lane, a lane shows counts, and the first batches
+/// that failed, so the text has less than a megabyte. `hashing` hashes keys, and nothing that you see depends on it.
 ///
 /// # Errors
 /// `AllocError` if memory runs out.
@@ -73,11 +73,11 @@ pub fn history_picture(
             return Ok(picture);
         }
     }
-    let picture = folded_picture(alloc, scene, &numbers, alone, MOST_FAILURES)?;
+    let picture = folded_picture(alloc, scene, &numbers, alone, true)?;
     if picture.len() <= MOST_BYTES {
         return Ok(picture);
     }
-    folded_picture(alloc, scene, &numbers, alone, 0)
+    folded_picture(alloc, scene, &numbers, alone, false)
 }
 
 /// The picture with the keys of all calls. Without a loader plans make `alone` fetches, and of the steps of each it says
@@ -101,16 +101,20 @@ fn whole_picture(
     drawing.finish()
 }
 
-/// The picture with counts in its lanes, and this many of the batches that failed.
+/// The picture with counts in its lanes. With errors it has their texts, and the first batches that failed.
 fn folded_picture(
     alloc: Global,
     scene: Scene<'_>,
     numbers: &HistoryNumbers,
     alone: Option<u64>,
-    failures: u64,
+    has_errors: bool,
 ) -> Result<String, AllocError> {
     let mut drawing = Drawing::new(alloc);
-    drawing.failures = failures;
+    if has_errors {
+        drawing.failures = MOST_FAILURES;
+    } else {
+        drawing.counts = 0;
+    }
     add_head(&mut drawing, numbers, alone);
     let rounds_each = rounds_a_column(lanes(scene), longest(scene));
     for caller in 0..most_lanes(scene) {

@@ -180,7 +180,10 @@ pub(crate) fn call_lines<'a>(
                 replies,
             };
         }
-        Reply::Primed(_) => Mark::Primed,
+        Reply::Primed(cell) => {
+            let fate = cells.get(*cell as usize);
+            return Lines::Primed { keys, fate };
+        }
         Reply::Kept => Mark::Kept,
         Reply::Done | Reply::Sent(_) => Mark::Cleared,
     };

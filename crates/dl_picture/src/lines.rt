@@ -68,11 +68,13 @@ pub(crate) struct Ended {
     pub(crate) mark: Mark,
 }
 
-/// How many keys have these marks, how many batches ended so, or how many calls were refused or steps have faults.
+/// How many keys have these marks and this error, how many batches ended so, or how many calls were refused or steps have
+/// faults.
 #[derive(Clone, Copy)]
-pub(crate) struct Count {
+pub(crate) struct Count<'a> {
     pub(crate) badges: Badges,
     pub(crate) is_of_batches: bool,
+    pub(crate) why: Option<&'a str>,
     pub(crate) count: usize,
 }
 
@@ -85,6 +87,11 @@ pub(crate) enum Lines<'a> {
         cells: &'a [Fate],
         keys: &'a [FetchKey],
         replies: &'a [LoadReply],
+    },
+    /// A line for each key that a prime stored, by what became of its cell if that is known.
+    Primed {
+        keys: &'a [FetchKey],
+        fate: Option<&'a Fate>,
     },
     /// A line for each key, with one mark.
     Keys {
@@ -103,13 +110,22 @@ pub(crate) enum Lines<'a> {
     /// A line for each fault in which a step ends.
     Faults(&'a [StepFault]),
     /// A line for each count.
-    Counts(&'a [Count]),
+    Counts(&'a [Count<'a>]),
     /// The same, of what comes behind other lines.
-    More(&'a [Count]),
+    More(&'a [Count<'a>]),
 }
 
 /// No lines.
 pub(crate) const NO_LINES: Lines<'static> = Lines::Counts(&[]);
+
+impl Count<'_> {
+    /// Whether it counts the same as another.
+    pub(crate) fn is_like(&self, other: &Count<'_>) -> bool {
+        self.badges == other.badges
+            && self.is_of_batches == other.is_of_batches
+            && self.why == other.why
+    }
+}
 
 impl<'a> Line<'a> {
     /// A line with this label alone.
@@ -126,6 +142,14 @@ impl<'a> Line<'a> {
     /// The text that the column shows below it, if any.
     pub(crate) fn told(&self) -> Option<&'a str> {
         if self.shows_why { self.why } else { None }
+    }
+
+    /// The text of an error, which a count has too. The fault of a step is no error.
+    pub(crate) fn error(&self) -> Option<&'a str> {
+        match self.badges.mark {
+            Mark::Fault => None,
+            _ => self.why,
+        }
     }
 
     /// How high it is, with that text.
@@ -152,6 +176,20 @@ impl<'a> Line<'a> {
         }
     }
 
+    /// The line of a key that a prime stored, by what became of its cell if that is known.
+    fn of_primed(key: &'a FetchKey, fate: Option<&'a Fate>) -> Line<'a> {
+        let badges = Badges {
+            mark: Mark::Primed,
+            is_primed: false,
+            failure: fate.and_then(|fate| fate.failure()),
+        };
+        Line {
+            why: fate.and_then(|fate| fate.why()),
+            shows_why: true,
+            ..Line::of(Label::Key(key), badges)
+        }
+    }
+
     /// The line of a key in a settled batch, by its outcome.
     fn of_settled(key: &'a FetchKey, outcome: &'a Outcome) -> Line<'a> {
         let mark = match outcome {
@@ -169,7 +207,7 @@ impl<'a> Line<'a> {
     }
 
     /// The line of a count.
-    fn of_count(count: &Count) -> Line<'a> {
+    fn of_count(count: &Count<'a>) -> Line<'a> {
         let label = match count.badges.mark {
             _ if count.is_of_batches => {
                 Label::Batches(Phrase::count(count.count, " batch", " batches"))
@@ -177,20 +215,28 @@ impl<'a> Line<'a> {
             Mark::Refused => Label::Words(Phrase::count(count.count, " call", " calls")),
             _ => Label::Words(Phrase::count(count.count, " key", " keys")),
         };
-        Line::of(label, count.badges)
+        Line::counted(label, count)
     }
 
     /// The line of a count of what comes behind other lines.
-    fn of_more(count: &Count) -> Line<'a> {
-        let number = count.count as u64;
+    fn of_more(count: &Count<'a>) -> Line<'a> {
         let label = match count.badges.mark {
             _ if count.is_of_batches => {
-                Label::Batches(Phrase::Numbered("and ", number, " more batches"))
+                Label::Batches(Phrase::more(count.count, " more batch", " more batches"))
             }
-            Mark::Fault => Label::Words(Phrase::Numbered("and ", number, " more steps")),
-            _ => Label::Words(Phrase::Numbered("and ", number, " more keys")),
+            Mark::Fault => Label::Words(Phrase::more(count.count, " more step", " more steps")),
+            _ => Label::Words(Phrase::more(count.count, " more key", " more keys")),
         };
-        Line::of(label, count.badges)
+        Line::counted(label, count)
+    }
+
+    /// A line of a count, with this label.
+    fn counted(label: Label<'a>, count: &Count<'a>) -> Line<'a> {
+        Line {
+            why: count.why,
+            shows_why: true,
+            ..Line::of(label, count.badges)
+        }
     }
 
     /// The line of a fault in which a step ends.
@@ -215,9 +261,10 @@ impl<'a> Lines<'a> {
     /// How many lines there are.
     pub(crate) fn count(self) -> usize {
         match self {
-            Lines::Loads { keys, .. } | Lines::Keys { keys, .. } | Lines::Settled { keys, .. } => {
-                keys.len()
-            }
+            Lines::Loads { keys, .. }
+            | Lines::Primed { keys, .. }
+            | Lines::Keys { keys, .. }
+            | Lines::Settled { keys, .. } => keys.len(),
             Lines::Ended(batches) => batches.len(),
             Lines::Refused(_) => 1,
             Lines::Faults(faults) => faults.len(),
@@ -257,9 +304,11 @@ impl<'a> Lines<'a> {
                 let (first, others) = split_at(faults, most);
                 (Lines::Faults(first), Lines::Faults(others))
             }
-            Lines::Loads { .. } | Lines::Refused(_) | Lines::Counts(_) | Lines::More(_) => {
-                (self, NO_LINES)
-            }
+            Lines::Loads { .. }
+            | Lines::Primed { .. }
+            | Lines::Refused(_)
+            | Lines::Counts(_)
+            | Lines::More(_) => (self, NO_LINES),
         }
     }
 
@@ -273,6 +322,10 @@ impl<'a> Lines<'a> {
             } => match (keys.get(place), replies.get(place)) {
                 (Some(key), Some(reply)) => Some(Line::of_load(cells, key, *reply)),
                 _ => None,
+            },
+            Lines::Primed { keys, fate } => match keys.get(place) {
+                Some(key) => Some(Line::of_primed(key, fate)),
+                None => None,
             },
             Lines::Keys { keys, mark } => match keys.get(place) {
                 Some(key) => Some(Line::of(Label::Key(key), Badges::of(mark))),

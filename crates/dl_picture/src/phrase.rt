@@ -18,7 +18,16 @@ pub(crate) enum Phrase {
 impl Phrase {
     /// A count with its noun, for one or for more.
     pub(crate) fn count(count: usize, one: &'static str, several: &'static str) -> Phrase {
-        let noun = if count == 1 { one } else { several };
-        Phrase::Numbered("", count as u64, noun)
+        Phrase::Numbered("", count as u64, noun(count, one, several))
     }
+
+    /// A count of what comes behind other lines, with its noun, for one or for more.
+    pub(crate) fn more(count: usize, one: &'static str, several: &'static str) -> Phrase {
+        Phrase::Numbered("and ", count as u64, noun(count, one, several))
+    }
+}
+
+/// The noun for one or for more.
+fn noun(count: usize, one: &'static str, several: &'static str) -> &'static str {
+    if count == 1 { one } else { several }
 }

@@ -10,7 +10,7 @@ use crate::lines::{Lines, MOST_BATCHES, NO_LINES};
 use crate::mark::Mark;
 use crate::numbers::{HistoryNumbers, script_numbers};
 use crate::phrase::Phrase;
-use crate::tally::Tally;
+use crate::tally::{MOST_COUNTS, Tally};
 use dl_desk::{BatchState, BatchView, Desk, DeskCall, DeskFault, FetchKey, Reply};
 use dl_documents::Script;
 use std::alloc::{AllocError, Global};
@@ -74,13 +74,25 @@ fn folded_picture(
     desk: &Desk,
     numbers: &HistoryNumbers,
 ) -> Result<String, AllocError> {
-    let mut tally = Tally::new(alloc);
+    let tally = tally_of(alloc, calls, desk)?;
+    let mut drawing = Drawing::new(alloc);
+    add_head(&mut drawing, calls, numbers);
+    add_counts(&mut drawing, &tally);
+    drawing.finish()
+}
+
+/// The counts of the calls' keys and of the batches. Fails if memory runs out.
+fn tally_of<'a>(alloc: Global, calls: Calls<'a>, desk: &Desk) -> Result<Tally<'a>, AllocError> {
+    let mut tally = Tally::new(alloc, MOST_COUNTS);
     for (call, answer) in calls.calls.iter().zip(calls.answers) {
         tally.add_lines(lines_of(calls.cells, call, answer))?;
     }
     count_batches(&mut tally, desk)?;
-    let mut drawing = Drawing::new(alloc);
-    add_head(&mut drawing, calls, numbers);
+    Ok(tally)
+}
+
+/// A column with counts of all calls.
+fn add_counts(drawing: &mut Drawing, tally: &Tally<'_>) {
     drawing.add_column(&Column {
         heading: Phrase::Words("all calls"),
         side: Phrase::Words(""),
@@ -89,7 +101,6 @@ fn folded_picture(
         lines: tally.lines(),
         foot: NO_LINES,
     });
-    drawing.finish()
 }
 
 /// The head of a script's picture, and the words above its calls.
@@ -195,7 +206,7 @@ fn add_batches(drawing: &mut Drawing, desk: &Desk) {
 }
 
 /// Counts the batches by how far they have come. Fails if memory runs out.
-fn count_batches(tally: &mut Tally, desk: &Desk) -> Result<(), AllocError> {
+fn count_batches(tally: &mut Tally<'_>, desk: &Desk) -> Result<(), AllocError> {
     for number in 0..u32::MAX {
         match desk.batch(number) {
             Some(batch) => tally.add_batch(state_of(&batch).1)?,

@@ -1,21 +1,26 @@
-//! Counts of lines by their marks.
+//! Counts of lines by their marks, and by the texts of errors.
 
 use crate::lines::{Count, Label, Lines};
 use crate::mark::{Badges, Mark};
 use std::alloc::{AllocError, Global};
 
-/// How many keys have which marks, how many batches ended in which way, how many calls were refused, and how many steps
-/// have faults.
+/// With so many counts an error of a further text is counted without its text.
+pub(crate) const MOST_COUNTS: usize = 8;
+
+/// How many keys have which marks and which error, how many batches ended in which way, how many calls were refused, and
+/// how many steps have faults; and with how many counts it takes no further texts.
 #[derive(Drop)]
-pub(crate) struct Tally {
-    counts: Vec<Count>,
+pub(crate) struct Tally<'a> {
+    counts: Vec<Count<'a>>,
+    most: usize,
 }
 
-impl Tally {
-    /// Of nothing.
-    pub(crate) fn new(alloc: Global) -> Tally {
+impl<'a> Tally<'a> {
+    /// Of nothing. With `most` counts an error of a further text is counted without its text.
+    pub(crate) fn new(alloc: Global, most: usize) -> Tally<'a> {
         Tally {
             counts: Vec::new(alloc),
+            most,
         }
     }
 
@@ -35,10 +40,15 @@ impl Tally {
     }
 
     /// Counts lines that aren't counts. Fails if memory runs out.
-    pub(crate) fn add_lines(&mut self, lines: Lines<'_>) -> Result<(), AllocError> {
+    pub(crate) fn add_lines(&mut self, lines: Lines<'a>) -> Result<(), AllocError> {
         for place in 0..lines.count() {
             if let Some(line) = lines.line(place) {
-                self.add(line.badges, matches!(&line.label, Label::Batches(_)))?;
+                self.add(Count {
+                    badges: line.badges,
+                    is_of_batches: matches!(&line.label, Label::Batches(_)),
+                    why: line.error(),
+                    count: 1,
+                })?;
             }
         }
         Ok(())
@@ -46,22 +56,37 @@ impl Tally {
 
     /// Counts a batch that ended in this way. Fails if memory runs out.
     pub(crate) fn add_batch(&mut self, mark: Mark) -> Result<(), AllocError> {
-        self.add(Badges::of(mark), true)
+        self.add(Count {
+            badges: Badges::of(mark),
+            is_of_batches: true,
+            why: None,
+            count: 1,
+        })
     }
 
     /// Counts one more.
-    fn add(&mut self, badges: Badges, is_of_batches: bool) -> Result<(), AllocError> {
-        for count in self.counts.iter_mut() {
-            if count.badges == badges && count.is_of_batches == is_of_batches {
-                count.count = count.count.saturating_add(1);
+    fn add(&mut self, mut one: Count<'a>) -> Result<(), AllocError> {
+        if self.has_added(&one) {
+            return Ok(());
+        }
+        if one.why.is_some() && self.counts.len() >= self.most {
+            one.why = None;
+            if self.has_added(&one) {
                 return Ok(());
             }
         }
-        self.counts.push(Count {
-            badges,
-            is_of_batches,
-            count: 1,
-        })?;
+        self.counts.push(one)?;
         Ok(())
+    }
+
+    /// Whether there is a count for it, to which one was then added.
+    fn has_added(&mut self, one: &Count<'a>) -> bool {
+        for count in self.counts.iter_mut() {
+            if count.is_like(one) {
+                count.count = count.count.saturating_add(1);
+                return true;
+            }
+        }
+        false
     }
 }
