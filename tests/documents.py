@@ -1837,6 +1837,14 @@ ROWS["each fault of a plan file is explained"] = [
     ),
 ]
 
+
+def unserved(about, name, why, limit):
+    """A plan file of two loads in one round that isn't served within a limit: the line of this name comes behind this cause."""
+    loads = evaluation('{"all":[{"load":["user","u8"]},{"load":["user","u9"]}]}')
+    text = explained_file([loads]).replace('"version":1', f'"version":1,{limit}', 1)
+    return Row(about, document(text), ("--explain", "--explain --workers 1"), status=3, error=f"{why}\nfailed: {name}\n")
+
+
 FAULT = document(explained_file([evaluation('{"load":["user","u9"]}')]))
 ROWS["faults are explained on request, behind an answer"] = [
     answered("without the option", FAULT, f"0 0 fault {NO_ROW}", command_lines=PLAIN),
@@ -1853,7 +1861,9 @@ ROWS["faults are explained on request, behind an answer"] = [
     Row("a plan file that is migrated", document(NOTHING), ("--explain migrate",), output=NOTHING_2),
     Row("a document that is refused", b"{}", ("--explain",), status=1, error="refused: version\n"),
     Row("an output that takes nothing", FAULT, ("--explain",), status=3, error="failed: write\n", is_full=True),
-    Row("a plan that meets a limit", FAULT.replace(b'"version":1', b'"version":1,"maxCalls":1'), ("--explain",), status=3, error="failed: Run\n"),
+    unserved("a plan that needs two calls", "Run", "plan 0: a history of 1 calls is full: give it more, at most 65,536", '"maxCalls":1'),
+    unserved("a plan that needs two cells", "Run", "plan 0: a loader of 1 cells is full: give it more, at most 65,536", '"maxCells":1'),
+    unserved("a worker that needs a call", "Stopped", "a worker couldn't end its batch: give maxCalls more, or memory ran out", '"maxCalls":2'),
     usage("the option with a value", "--explain=true", "unexpected value 'true' for '--explain'"),
     usage("the option twice", "--explain --explain", "the argument '--explain' cannot be used multiple times"),
     usage("the option behind migrate", "migrate --explain", "unexpected argument '--explain' found", "Usage: plans migrate"),

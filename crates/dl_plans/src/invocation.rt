@@ -9,6 +9,7 @@ use crate::fault::RunError;
 use crate::settings::Options;
 use crate::status::{FAILED, RAN, command_status, words_status};
 use clap::error::ErrorKind;
+use dl_scope::ScopeFault;
 use dl_source::Tables;
 use dl_sqlite::{DatabaseFault, read_file};
 use std::alloc::{AllocError, Global};
@@ -147,13 +148,28 @@ fn tell_no_options<R: Print + Eprint>(rt: &R, error: &clap::Error) {
 
 // ---- how it ends
 
-/// The status of a run. If the run failed, says why in a line on standard error.
-pub fn told<R: Eprint>(rt: &R, ran: &Result<(), RunError>) -> u8 {
+/// The status of a run. If the run failed, says why in a line on standard error. If you want it explained why plans
+/// weren't served, a line in front of it does.
+pub fn told<R: Eprint>(rt: &R, ran: &Result<(), RunError>, explain: bool) -> u8 {
     match ran {
         Ok(()) => RAN,
         Err(error) => {
+            if explain {
+                tell_unserved(rt, error);
+            }
             let _ = eprintln!(rt; "{error}");
             error.status()
         }
     }
+}
+
+/// Says which limit a plan met, or what a worker may have met. A worker leaves no cause.
+fn tell_unserved<R: Eprint>(rt: &R, error: &RunError) {
+    let _ = match error {
+        RunError::Run(ScopeFault::Run { plan, fault }) => eprintln!(rt; "plan {plan}: {fault}"),
+        RunError::Run(ScopeFault::Stopped) => {
+            eprintln!(rt; "a worker couldn't end its batch: give maxCalls more, or memory ran out")
+        }
+        _ => Ok(()),
+    };
 }

@@ -13,7 +13,10 @@ use std::thread::Threads;
 
 fn main(rt: HostRuntime) -> ExitCode {
     let status = match asked(&rt) {
-        Ok((options, hashing)) => told(&rt, &written(&rt, hashing, options)),
+        Ok((options, hashing)) => {
+            let explain = options.explain;
+            told(&rt, &written(&rt, hashing, options), explain)
+        }
         Err(status) => status,
     };
     ExitCode::from(status)
