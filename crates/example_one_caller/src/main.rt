@@ -51,7 +51,7 @@ fn with_loader<L: LoaderName, S: Source, R: Wait + Print>(
     Ok(())
 }
 
-/// Loads a user, sends the batch, ends its job, and prints the outcome.
+/// Loads a user, sends the batch, ends its job, and prints the outcome and the pass's entries.
 fn load_and_print<L: LoaderName, S: Source, R: Wait + Print>(
     rt: &R,
     alloc: Global,
@@ -69,6 +69,9 @@ fn load_and_print<L: LoaderName, S: Source, R: Wait + Print>(
     match ticket.look() {
         Some(Outcome::Value(name)) => println!(rt; "{}", name.to_text(alloc)?)?,
         _ => bail!("no user"),
+    }
+    for entry in pass.entries() {
+        println!(rt; "{entry}")?;
     }
     Ok(())
 }
