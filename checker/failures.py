@@ -206,10 +206,10 @@ class Terms:
         return one_of(lists)
 
     def bodies(self, body: Json, path: Path, items: list[Values]) -> list[Values]:
-        """What a body may have for each item. If it always fails for one, that is enough, and what it has is unknown."""
+        """What a body may have for each item, of which there may be none. If it always fails for one, that is enough, and what it has is unknown."""
         bodies: list[Values] = []
         warned = len(self.warnings)
-        for number, item in enumerate(items or [None]):
+        for number, item in enumerate(items):
             is_last = self.left < 0
             bodies.append(self.values(body, path, joined(items[number:]) if is_last else item))
             if len(self.warnings) > warned:
