@@ -1,7 +1,7 @@
 //! Lines of columns: what became of each key of a call or of a batch.
 
 use crate::cells::{Fate, why_of};
-use crate::column::LINE_HEIGHT;
+use crate::column::{LINE_HEIGHT, told_height};
 use crate::faults::StepFault;
 use crate::mark::{Badges, Mark};
 use crate::phrase::Phrase;
@@ -155,7 +155,7 @@ impl<'a> Line<'a> {
     /// How high it is, with that text.
     pub(crate) fn height(&self) -> u64 {
         match self.told() {
-            Some(_) => LINE_HEIGHT + LINE_HEIGHT,
+            Some(why) => LINE_HEIGHT.saturating_add(told_height(why)),
             None => LINE_HEIGHT,
         }
     }
