@@ -118,7 +118,9 @@ impl Column<'_> {
     /// How far below its top the lines begin.
     pub(crate) fn top(&self) -> u64 {
         match self.note {
-            Some(note) if takes_two_lines(note) => HEADING_HEIGHT + LINE_HEIGHT + LINE_HEIGHT,
+            Some(note) if takes_two_lines(note, NOTE_ROOM) => {
+                HEADING_HEIGHT + LINE_HEIGHT + LINE_HEIGHT
+            }
             Some(_) => HEADING_HEIGHT + LINE_HEIGHT,
             None => HEADING_HEIGHT,
         }
@@ -138,10 +140,18 @@ pub(crate) fn push_column(sheet: &mut Sheet, x: u64, y: u64, height: u64, column
     sheet.push("</svg>\n");
 }
 
-/// Whether what is said below the heading of a column takes two lines: it has several words, and one line has no room
-/// for them.
-fn takes_two_lines(note: &str) -> bool {
-    note.contains(' ') && room_for(note) > NOTE_ROOM
+/// Whether a text of several words takes two lines: one with this room has none for all of it.
+fn takes_two_lines(text: &str, room: u64) -> bool {
+    text.contains(' ') && room_for(text) > room
+}
+
+/// How high the text of an error is below its line.
+pub(crate) fn told_height(why: &str) -> u64 {
+    if takes_two_lines(why, LINE_ROOM) {
+        LINE_HEIGHT + LINE_HEIGHT
+    } else {
+        LINE_HEIGHT
+    }
 }
 
 /// What is said below the heading of a column.
@@ -150,28 +160,33 @@ fn push_note(sheet: &mut Sheet, note: &str) {
     sheet.push_form("<g class='note' transform='translate(# #)'><title>", &place);
     sheet.push_escaped(note);
     sheet.push("</title>");
-    if takes_two_lines(note) {
-        push_two_lines(sheet, note);
-    } else {
-        push_cut_text(sheet, 0, FOOT, note, NOTE_ROOM);
-    }
+    push_told(sheet, 0, FOOT, note, NOTE_ROOM);
     sheet.push("</g>\n");
 }
 
-/// A note on two lines: the first one has the words that fit it, at least one, and the second one the others.
-fn push_two_lines(sheet: &mut Sheet, note: &str) {
+/// A text with its foot at x and y, on one line with this room or on two.
+fn push_told(sheet: &mut Sheet, x: u64, y: u64, text: &str, room: u64) {
+    if takes_two_lines(text, room) {
+        push_two_lines(sheet, x, y, text, room);
+    } else {
+        push_cut_text(sheet, x, y, text, room);
+    }
+}
+
+/// A text on two lines: the first one has the words that fit it, at least one, and the second one the others.
+fn push_two_lines(sheet: &mut Sheet, x: u64, y: u64, text: &str, room: u64) {
     let (mut first, mut second) = (Sheet::new(sheet.alloc), Sheet::new(sheet.alloc));
-    for word in note.split(' ') {
+    for word in text.split(' ') {
         let taken = room_for(first.text()).saturating_add(1);
-        let fits = first.text().is_empty() || taken.saturating_add(room_for(word)) <= NOTE_ROOM;
+        let fits = first.text().is_empty() || taken.saturating_add(room_for(word)) <= room;
         if fits && second.text().is_empty() {
             push_word(&mut first, word);
         } else {
             push_word(&mut second, word);
         }
     }
-    push_line_of(sheet, FOOT, first);
-    push_line_of(sheet, FOOT + LINE_HEIGHT, second);
+    push_line_of(sheet, x, y, first, room);
+    push_line_of(sheet, x, y.saturating_add(LINE_HEIGHT), second, room);
 }
 
 /// Appends a word behind those of a line.
@@ -182,10 +197,10 @@ fn push_word(line: &mut Sheet, word: &str) {
     line.push(word);
 }
 
-/// A line of a note at this height, without its middle if it needs more room than it has.
-fn push_line_of(sheet: &mut Sheet, y: u64, line: Sheet) {
+/// A line of a text with its foot at x and y, without its middle if it needs more room than this.
+fn push_line_of(sheet: &mut Sheet, x: u64, y: u64, line: Sheet, room: u64) {
     match line.finish() {
-        Ok(text) => push_cut_text(sheet, 0, y, text.as_str(), NOTE_ROOM),
+        Ok(text) => push_cut_text(sheet, x, y, text.as_str(), room),
         Err(error) => sheet.note(Err(error)),
     }
 }
@@ -218,7 +233,7 @@ fn push_line(sheet: &mut Sheet, y: u64, line: &Line<'_>) {
             let badges = push_badges(sheet, line.badges);
             push_label(sheet, line, label.as_str(), badges.saturating_sub(1));
             if let Some(why) = line.told() {
-                push_cut_text(sheet, BADGE + CHARACTER, FOOT + LINE_HEIGHT, why, LINE_ROOM);
+                push_told(sheet, BADGE + CHARACTER, FOOT + LINE_HEIGHT, why, LINE_ROOM);
             }
             sheet.push("</g>\n");
         }
@@ -246,7 +261,20 @@ fn push_title(sheet: &mut Sheet, y: u64, line: &Line<'_>, label: &str) {
         sheet.push(": ");
         sheet.push_escaped(why);
     }
+    push_others(sheet, line);
     sheet.push("</title>");
+}
+
+/// The texts of errors that a line counts without their texts.
+fn push_others(sheet: &mut Sheet, line: &Line<'_>) {
+    let mut between = ", of other texts: ";
+    for other in line.others {
+        if let Some(why) = line.text_of(other) {
+            sheet.push(between);
+            sheet.push_escaped(why);
+            between = "; ";
+        }
+    }
 }
 
 /// The badges of a line, and how many they are.

@@ -1,7 +1,7 @@
 //! Lines of columns: what became of each key of a call or of a batch.
 
 use crate::cells::{Fate, why_of};
-use crate::column::LINE_HEIGHT;
+use crate::column::{LINE_HEIGHT, told_height};
 use crate::faults::StepFault;
 use crate::mark::{Badges, Mark};
 use crate::phrase::Phrase;
@@ -51,7 +51,7 @@ impl Label<'_> {
 }
 
 /// A line of a column: its marks, what they are for, the batch that a fresh load's key went into, the text of an error,
-/// and whether the column shows that text below the line.
+/// whether the column shows that text below the line, and what a count without a text has texts of.
 #[derive(Clone, Copy)]
 pub(crate) struct Line<'a> {
     pub(crate) badges: Badges,
@@ -59,6 +59,7 @@ pub(crate) struct Line<'a> {
     pub(crate) batch: Option<u32>,
     pub(crate) why: Option<&'a str>,
     shows_why: bool,
+    pub(crate) others: &'a [Count<'a>],
 }
 
 /// A batch that ended, and the mark of its end.
@@ -109,14 +110,23 @@ pub(crate) enum Lines<'a> {
     Refused(&'static str),
     /// A line for each fault in which a step ends.
     Faults(&'a [StepFault]),
-    /// A line for each count.
-    Counts(&'a [Count<'a>]),
+    /// A line for each count, of which those without a text may be of others.
+    Counts {
+        counts: &'a [Count<'a>],
+        others: &'a [Count<'a>],
+    },
     /// The same, of what comes behind other lines.
-    More(&'a [Count<'a>]),
+    More {
+        counts: &'a [Count<'a>],
+        others: &'a [Count<'a>],
+    },
 }
 
 /// No lines.
-pub(crate) const NO_LINES: Lines<'static> = Lines::Counts(&[]);
+pub(crate) const NO_LINES: Lines<'static> = Lines::Counts {
+    counts: &[],
+    others: &[],
+};
 
 impl Count<'_> {
     /// Whether it counts the same as another.
@@ -136,7 +146,13 @@ impl<'a> Line<'a> {
             batch: None,
             why: None,
             shows_why: false,
+            others: &[],
         }
+    }
+
+    /// The text of another error that it counts, if this is one of those.
+    pub(crate) fn text_of(&self, other: &Count<'a>) -> Option<&'a str> {
+        if other.badges == self.badges { other.why } else { None }
     }
 
     /// The text that the column shows below it, if any.
@@ -155,7 +171,7 @@ impl<'a> Line<'a> {
     /// How high it is, with that text.
     pub(crate) fn height(&self) -> u64 {
         match self.told() {
-            Some(_) => LINE_HEIGHT + LINE_HEIGHT,
+            Some(why) => LINE_HEIGHT.saturating_add(told_height(why)),
             None => LINE_HEIGHT,
         }
     }
@@ -168,11 +184,12 @@ impl<'a> Line<'a> {
         };
         let fate = cells.get(cell as usize);
         Line {
-            badges: fate.map_or(Badges::of(mark), |fate| fate.badges(mark)),
-            label: Label::Key(key),
             batch,
             why: fate.and_then(|fate| fate.why()),
-            shows_why: false,
+            ..Line::of(
+                Label::Key(key),
+                fate.map_or(Badges::of(mark), |fate| fate.badges(mark)),
+            )
         }
     }
 
@@ -198,16 +215,14 @@ impl<'a> Line<'a> {
             Outcome::BatchFailed(_) => Mark::Failed,
         };
         Line {
-            badges: Badges::of(mark),
-            label: Label::Key(key),
-            batch: None,
             why: why_of(outcome),
             shows_why: true,
+            ..Line::of(Label::Key(key), Badges::of(mark))
         }
     }
 
-    /// The line of a count.
-    fn of_count(count: &Count<'a>) -> Line<'a> {
+    /// The line of a count, and what it may be of without a text.
+    fn of_count(count: &Count<'a>, others: &'a [Count<'a>]) -> Line<'a> {
         let label = match count.badges.mark {
             _ if count.is_of_batches => {
                 Label::Batches(Phrase::count(count.count, " batch", " batches"))
@@ -215,11 +230,11 @@ impl<'a> Line<'a> {
             Mark::Refused => Label::Words(Phrase::count(count.count, " call", " calls")),
             _ => Label::Words(Phrase::count(count.count, " key", " keys")),
         };
-        Line::counted(label, count)
+        Line::counted(label, count, others)
     }
 
-    /// The line of a count of what comes behind other lines.
-    fn of_more(count: &Count<'a>) -> Line<'a> {
+    /// The line of a count of what comes behind other lines, and what it may be of without a text.
+    fn of_more(count: &Count<'a>, others: &'a [Count<'a>]) -> Line<'a> {
         let label = match count.badges.mark {
             _ if count.is_of_batches => {
                 Label::Batches(Phrase::more(count.count, " more batch", " more batches"))
@@ -227,14 +242,19 @@ impl<'a> Line<'a> {
             Mark::Fault => Label::Words(Phrase::more(count.count, " more step", " more steps")),
             _ => Label::Words(Phrase::more(count.count, " more key", " more keys")),
         };
-        Line::counted(label, count)
+        Line::counted(label, count, others)
     }
 
     /// A line of a count, with this label.
-    fn counted(label: Label<'a>, count: &Count<'a>) -> Line<'a> {
+    fn counted(label: Label<'a>, count: &Count<'a>, others: &'a [Count<'a>]) -> Line<'a> {
         Line {
             why: count.why,
             shows_why: true,
+            others: if count.why.is_some() || count.is_of_batches {
+                &[]
+            } else {
+                others
+            },
             ..Line::of(label, count.badges)
         }
     }
@@ -242,11 +262,9 @@ impl<'a> Line<'a> {
     /// The line of a fault in which a step ends.
     fn of_fault(fault: &'a StepFault) -> Line<'a> {
         Line {
-            badges: Badges::of(Mark::Fault),
-            label: Label::Text(fault.step.as_str()),
-            batch: None,
             why: Some(fault.why.as_str()),
             shows_why: true,
+            ..Line::of(Label::Text(fault.step.as_str()), Badges::of(Mark::Fault))
         }
     }
 
@@ -268,7 +286,7 @@ impl<'a> Lines<'a> {
             Lines::Ended(batches) => batches.len(),
             Lines::Refused(_) => 1,
             Lines::Faults(faults) => faults.len(),
-            Lines::Counts(counts) | Lines::More(counts) => counts.len(),
+            Lines::Counts { counts, .. } | Lines::More { counts, .. } => counts.len(),
         }
     }
 
@@ -307,8 +325,8 @@ impl<'a> Lines<'a> {
             Lines::Loads { .. }
             | Lines::Primed { .. }
             | Lines::Refused(_)
-            | Lines::Counts(_)
-            | Lines::More(_) => (self, NO_LINES),
+            | Lines::Counts { .. }
+            | Lines::More { .. } => (self, NO_LINES),
         }
     }
 
@@ -347,12 +365,12 @@ impl<'a> Lines<'a> {
                 Some(fault) => Some(Line::of_fault(fault)),
                 None => None,
             },
-            Lines::Counts(counts) => match counts.get(place) {
-                Some(count) => Some(Line::of_count(count)),
+            Lines::Counts { counts, others } => match counts.get(place) {
+                Some(count) => Some(Line::of_count(count, others)),
                 None => None,
             },
-            Lines::More(counts) => match counts.get(place) {
-                Some(count) => Some(Line::of_more(count)),
+            Lines::More { counts, others } => match counts.get(place) {
+                Some(count) => Some(Line::of_more(count, others)),
                 None => None,
             },
         }

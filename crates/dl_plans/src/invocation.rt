@@ -9,6 +9,8 @@ use crate::fault::RunError;
 use crate::settings::Options;
 use crate::status::{FAILED, RAN, command_status, words_status};
 use clap::error::ErrorKind;
+use dl_haxl::RunFault;
+use dl_history::CallFault;
 use dl_scope::ScopeFault;
 use dl_source::Tables;
 use dl_sqlite::{DatabaseFault, read_file};
@@ -166,7 +168,19 @@ pub fn told<R: Eprint>(rt: &R, ran: &Result<(), RunError>, explain: bool) -> u8 
 /// Says which limit a plan met, or what a worker may have met. A worker leaves no cause.
 fn tell_unserved<R: Eprint>(rt: &R, error: &RunError) {
     let _ = match error {
-        RunError::Run(ScopeFault::Run { plan, fault }) => eprintln!(rt; "plan {plan}: {fault}"),
+        RunError::Run(ScopeFault::Run { plan, fault }) => match fault {
+            RunFault::Call(CallFault::CellsFull { limit }) => {
+                eprintln!(rt;
+                    "plan {plan} needs more cells than maxCells, {limit}: give it more, at most 65536"
+                )
+            }
+            RunFault::Call(CallFault::LogFull { limit }) => {
+                eprintln!(rt;
+                    "plan {plan} needs more calls than maxCalls, {limit}: give it more, at most 65536"
+                )
+            }
+            _ => eprintln!(rt; "plan {plan}: {fault}"),
+        },
         RunError::Run(ScopeFault::Stopped) => {
             eprintln!(rt; "a worker couldn't end its batch: give maxCalls more, or memory ran out")
         }
