@@ -267,7 +267,7 @@ fn push_title(sheet: &mut Sheet, y: u64, line: &Line<'_>, label: &str) {
 
 /// The texts of errors that a line counts without their texts.
 fn push_others(sheet: &mut Sheet, line: &Line<'_>) {
-    let mut between = ", of other texts: ";
+    let mut between = ", with other texts: ";
     for other in line.others {
         if let Some(why) = line.text_of(other) {
             sheet.push(between);
