@@ -94,9 +94,10 @@ impl fmt::Display for Reply {
     }
 }
 
-// Most events are loads, of which only the key is let go.
+// Out of line, so that a call whose event the log takes has no code for letting it go.
 impl Drop for Event {
-    #[inline(always)]
+    #[cold]
+    #[inline(never)]
     fn drop(self) {
         let Event {
             caller: _,
