@@ -37,7 +37,7 @@ crates/plans/out/kept: $(crates:%=crates/%/out/line)
 crates/%/out/kept:
 	@echo 'plans: proving $*, crate $(place_$*) of $(words $(crates))' && cat $(filter %/line,$^) >$(@D)/begun
 	@( $($(way)) ) </dev/null >$(@D)/log 2>&1 || { $(tell_why); exit 1; }
-	@$(if $(filter apart,$(way)),$(moved) &&) mv $(@D)/begun $@
+	@$(if $(filter apart,$(way)),$(moved) &&) $(if $(filter program,$(way)),$(summed) &&) mv $(@D)/begun $@
 
 way = $(or $(if $(filter plans,$*),program),$(if $(filter $(chain),$*),in_place),$(if $(filter-out -j1,$(filter -j%,$(MAKEFLAGS))),apart),in_place)
 rt = setpriv --pdeathsig TERM rt
@@ -48,6 +48,9 @@ apart = rm -rf $(@D)/apart/crates/*/{src,specs,proofs} && mkdir -p $(@D)/apart &
 	&& nice -n 5 $(rt) lib --jobs $(if $(and $(filter-out 1,$(jobs)),$(filter $(large),$*)),2,1)
 moved = rm -rf $(@D)/{rlib,incremental} && mv $(@D)/apart/crates/$*/out/{rlib,incremental} $(@D)
 program = cd crates/plans && $(rt) run -- --help && { [[ -f out/plans.stamp ]] || { echo 'error: a source changed, so try again' && false; }; }
+# What ./plans goes by if something is newer: the sums of all files that the program is made of, and its own; none if a source changed meanwhile.
+summed = folders=$$(grep ^crates/ $(@D)/begun) && find $$folders $(@D)/plans ! -type d -exec sha256sum {} + | LC_ALL=C sort >$(@D)/sums \
+	&& { find $$folders -newer $(@D)/begun -exec false {} + || rm -f $(@D)/sums; }
 tell_why = grep -Em12 ': (not proved|no proof)|it is not proved|\berror(:|\[)' $(@D)/log || tail -n12 $(@D)/log; \
 	echo "plans: $* is not proved; the whole output is in $$PWD/$(@D)/log"
 
