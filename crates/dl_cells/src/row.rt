@@ -104,8 +104,7 @@ impl<T: Drop> CellRow<T> {
     /// # Errors
     /// You get `value` back if the cell has one already, or if another thread is just setting it. The reader then knows
     /// what it knew before.
-    // Inlined, so that a value is made where it will lie, and not moved there.
-    #[inline(always)]
+    // Not inlined by force: so the compiler first takes the slot's write into it, which it leaves out of line in a long caller.
     pub fn show(&self, i: u32, reader: &mut Reader<T>, value: T) -> Result<(), T>
         requires in_row { i < row_len self.now }
         requires of_cell { reader.old.cell ≡ cell_of self.now i }

@@ -94,7 +94,7 @@ impl fmt::Display for Reply {
     }
 }
 
-// Out of line, so that a call whose event the log takes has no code for letting it go.
+// Out of line, since a call that is made lets no event go. Most are loads, of which only the key is let go.
 impl Drop for Event {
     #[cold]
     #[inline(never)]

@@ -229,7 +229,7 @@ impl FetchKey {
     ///
     /// # Errors
     /// `AllocError` if memory runs out, which only happens if the bytes are a key's.
-    // Inlined for the sake of loads that find their key.
+    // Inlined for the sake of the C libraries' loads that find their key.
     #[inline(always)]
     pub fn read(
         alloc: Global,

@@ -53,13 +53,13 @@ impl<L: LoaderName> Book<L> {
             answer,
         } = prepared;
         let cells = begun_in(rows, &reply);
+        let loads = C::loads(&answer);
+        pass.reserve(loads.len())?;
         let event = Event {
             caller,
             call: copy,
             reply,
         };
-        let loads = C::loads(&answer);
-        pass.reserve(loads.len())?;
         pass.add_event(rows, &mut self.journal, event, cells)?;
         call.show(&mut self.desk);
         pass.add_tickets(&self.journal, loads);
