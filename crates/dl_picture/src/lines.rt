@@ -152,7 +152,11 @@ impl<'a> Line<'a> {
 
     /// The text of another error that it counts, if this is one of those.
     pub(crate) fn text_of(&self, other: &Count<'a>) -> Option<&'a str> {
-        if other.badges == self.badges { other.why } else { None }
+        if other.badges == self.badges {
+            other.why
+        } else {
+            None
+        }
     }
 
     /// The text that the column shows below it, if any.
