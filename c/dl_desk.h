@@ -21,7 +21,7 @@ extern "C" {
 
 /* A handle. It begins as all zeros, which is a closed one: `dl_desk desk = {0};`. The host owns the handle's 16 bytes, and
  * neither writes nor copies them: there is one handle for each desk. It may be moved to another place while no call is made.
- * One call at a time is made on a handle, by one thread. */
+ * One call at a time is made on a handle. Between the calls of two threads lies a lock, or a thread's start or end. */
 typedef struct dl_desk {
     bool is_open;
     void *held;
@@ -49,11 +49,12 @@ uint32_t dl_desk_open_by_table(dl_desk *desk, const dl_opening *opening, const u
                                const dl_table_limit *tables, size_t tables_len);
 
 /* Closes the desk and frees its memory. The handle is closed then, and may be opened again.
- * DL_DONE; DL_CLOSED. */
+ * DL_DONE, also while batches collect or are open; DL_CLOSED. */
 uint32_t dl_desk_close(dl_desk *desk);
 
 /* Loads a key (DataLoader: load).
- * DL_HIT with the cell that is held for it; DL_FRESH with a new cell and the batch that it is a member of.
+ * DL_HIT with the cell that is held for it; DL_FRESH with a new cell and the batch that it is a member of. No batch has a key
+ * twice: one that was cleared and is loaded again is a member of a later batch.
  * DL_CLOSED, DL_BAD_KEY, DL_CELLS_FULL, DL_OUT_OF_MEMORY. */
 dl_loaded dl_desk_load(dl_desk *desk, DL_KEY);
 
@@ -64,8 +65,8 @@ dl_loaded dl_desk_load(dl_desk *desk, DL_KEY);
 uint32_t dl_desk_load_many(dl_desk *desk, const uint8_t *texts, size_t texts_len, const dl_key_lengths *lengths,
                            size_t lengths_len, dl_loaded *answers, size_t answers_len);
 
-/* Begins a cell for a key in no batch, for an outcome that the host has, unless the key is held (DataLoader: prime).
- * DL_FRESH with the new cell; DL_HIT, with no cell, if the key is held: nothing changes then.
+/* Begins a cell that is in no batch, for a key whose outcome the host has, unless the key is held (DataLoader: prime).
+ * DL_FRESH with the new cell; DL_HIT if the key is held: nothing changes then, and dl_desk_held says its cell, not this answer.
  * DL_CLOSED, DL_BAD_KEY, DL_CELLS_FULL, DL_OUT_OF_MEMORY. */
 dl_loaded dl_desk_prime(dl_desk *desk, DL_KEY);
 
@@ -86,7 +87,8 @@ uint32_t dl_desk_clear_all(dl_desk *desk);
  * DL_DONE with the batches, of which there may be none. DL_CLOSED, DL_OUT_OF_MEMORY. */
 dl_dispatched dl_desk_dispatch(dl_desk *desk);
 
-/* The cell of a batch's member. Members are counted from 0 on, in the order of their loads.
+/* The cell of a batch's member, whether the batch collects, is open or has ended. Members are counted from 0 on, in the order
+ * of their loads.
  * DL_HIT with the cell. DL_CLOSED, DL_NO_BATCH; DL_NO_MEMBER past the last one. */
 dl_loaded dl_desk_member(dl_desk *desk, uint32_t batch, uint32_t index);
 
