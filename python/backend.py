@@ -42,7 +42,7 @@ def archives(crate, variable):
             sys.exit("thrushscreen: the library that comes with this source is for Linux on x86_64 alone")
         return [CARRIED / f"lib{crate}.a", CARRIED / "liblibc_c.a"]
     if shutil.which("rt") is None:
-        sys.exit("thrushscreen: there is no rt on the path, the toolchain's command that proves and builds the library")
+        sys.exit("thrushscreen: there is no rt on the path, the toolchain's command that proves and builds the library; or set DL_DESK_ARCHIVES and DL_LOADER_ARCHIVES")
     subprocess.run(["rt", "lib"], cwd=CRATES / crate, check=True)
     page = subprocess.run(["rt", "doc"], check=True, capture_output=True, text=True).stdout.strip()
     return [CRATES / crate / "out" / f"lib{crate}.a", pathlib.Path(page).parent / "c" / "liblibc_c.a"]

@@ -125,7 +125,7 @@ class PrimaryApi(unittest.IsolatedAsyncioTestCase):
         self.assertEqual(load_calls, [[2]])
 
     async def test_coalesces_identical_requests(self):
-        """A load has a future of its own, where it has the same promise there: cancelling one touches no other."""
+        """A load has a future of its own, as it has a promise of its own there: cancelling one touches no other."""
         loader, load_calls = id_loader()
         one, two = loader.load(1), loader.load(1)
         self.assertEqual(await asyncio.gather(one, two), [1, 1])

@@ -40,7 +40,7 @@ class DataLoader(Options[K, V, Awaitable[Sequence[Union[V, BaseException]]], "as
     exception in a value's place is the error of that key alone, and the loader keeps it like a value. If the function raises, each
     key of the batch has that error, and the loader forgets them, so that a later load fetches them again.
 
-    Each load has a future of its own: if you cancel it, you cancel no other. A loader belongs to the event loop of its first load.
+    Each load that waits has a future of its own: if you cancel it, you cancel no other. A loader belongs to the event loop of its first load.
     Each load that isn't a hit begins a *cell*, the place of its outcome, and so does each prime that holds a value. A loader begins
     at most ``max_cells`` cells: make one for each request, or call ``clear_all`` between jobs. It counts from 0 again when it holds no
     key and waits for no batch.

@@ -1,10 +1,10 @@
 //! Lines that join keys to the batches that answered them.
 
-use crate::column::{Column, HEADING_HEIGHT, LINE_HEIGHT};
+use crate::column::{COLUMN_WIDTH, Column, HEADING_HEIGHT, LINE_HEIGHT};
 use crate::sheet::Sheet;
 use std::alloc::{AllocError, Global};
 
-/// How far a line goes out to the right, and how much farther that of the next batch does, up to four.
+/// How far a line goes out to a side, and how much farther that of the next batch does, up to four.
 const BOW: u64 = 9;
 
 const BOW_STEP: u64 = 5;
@@ -102,12 +102,18 @@ impl Joins {
     }
 }
 
-/// A line from keys, which a bracket holds together if they are several, to their batch.
+/// A line from keys, which a bracket holds together if they are several, to their batch: to its left side if that is
+/// farther right, or else to its right side.
 fn push_join(sheet: &mut Sheet, keys: Spot, batch: Spot) {
     let (x, top, foot) = (keys.x, keys.top, keys.foot);
     let middle = top.saturating_add(foot.saturating_sub(top) / 2);
     let bow = BOW + (keys.batch % 4) as u64 * BOW_STEP;
-    let (left, right) = (x.saturating_add(bow), batch.x.saturating_add(bow));
+    let side = batch.x.saturating_sub(COLUMN_WIDTH);
+    let (end, right) = if side > x {
+        (side, side.saturating_sub(bow))
+    } else {
+        (batch.x, batch.x.saturating_add(bow))
+    };
     let begin = if top < foot {
         sheet.push_form(
             "<path class='join' d='M# #h#V#h-#",
@@ -121,7 +127,14 @@ fn push_join(sheet: &mut Sheet, keys: Spot, batch: Spot) {
     sheet.push_form(
         "M# #C# # # # # #'/>\n",
         &[
-            begin, middle, left, middle, right, batch.top, batch.x, batch.top,
+            begin,
+            middle,
+            x.saturating_add(bow),
+            middle,
+            right,
+            batch.top,
+            end,
+            batch.top,
         ],
     );
 }
