@@ -171,7 +171,7 @@ fn output<T: Threads + Wait + Sync>(
 ///
 /// # Errors
 /// Those of [`read_input`], or with a database those of [`read_over_database`].
-fn read(
+pub(crate) fn read(
     alloc: Global,
     hashing: RandomState,
     bytes: &[u8],
