@@ -1,23 +1,17 @@
 //! Answers a plan file that a server was sent.
 
-ghost use Rattle.std.specs.Prelude.{◌≡◌, IfErr, IfOk, IfSome, OnOk};
+ghost use Rattle.std.specs.Prelude.{◌≡◌, ℕ, List, IfErr, IfOk, IfSome, OnOk};
 ghost use Rattle.dl_plans.specs.JoinedTables.{AreNames};
 ghost use Rattle.dl_plans.specs.Request.{HasReport, IsNoReport, IsPlanFile, IsReport};
-ghost use Rattle.dl_plans.specs.Run.{file_service, setup_of};
 ghost use Rattle.dl_plans.specs.declared.request.RequestFault.TheVariants.{OutOfMemory};
-ghost use Rattle.dl_scope.specs.Faults.{RefusedAs};
-ghost use Rattle.dl_scope.specs.Headline.{Headline};
 
-use crate::QUEUE_PLACES;
-use crate::document::read;
-use crate::joined_tables::JoinedTables;
+use crate::document;
 use crate::picture::report_picture;
 use crate::settings::Options;
 use crate::table_names::Names;
 use dl_documents::{Input, PlanFault, PlanFile};
 use dl_picture::terms_of;
-use dl_scope::{Report, ScopeFault, Setup, serve};
-use dl_workers::NoGate;
+use dl_scope::{Report, ScopeFault};
 use std::alloc::{AllocError, Global};
 use std::hash::RandomState;
 use std::sync::Wait;
@@ -54,8 +48,8 @@ impl From<AllocError> for RequestFault {
 /// nothing that you see depends on it.
 ///
 /// # Errors
-/// `Refused` if the bytes are no document, `Script` if they are a call script, `Run` if [`serve`] refuses the plans, and
-/// `OutOfMemory`.
+/// `Refused` if the bytes are no document, `Script` if they are a call script, `Run` if [`serve`](dl_scope::serve) refuses
+/// the plans, and `OutOfMemory`.
 pub fn serve_request<T: Threads + Wait + Sync>(
     rt: &T,
     alloc: Global,
@@ -105,18 +99,20 @@ fn plan_file(
     ensures names { IfOk result (λ p. IfSome options.now.database (λ _. AreNames p.1 p.0.tables)) }
     ensures err { IfErr result (IsNoReport options.now bytes.now) }
 {
-    match read(alloc, hashing, bytes, &options.database) {
-        Ok((Input::Plans(file), names)) => Ok((file, names)),
-        Ok((Input::Script(_), _)) => Err(RequestFault::Script),
+    match document::read(alloc, hashing, bytes, &options.database) {
+        Ok((input, names)) => match input {
+            Input::Plans(file) => Ok((file, names)),
+            Input::Script(_) => Err(RequestFault::Script),
+        },
         Err(PlanFault::OutOfMemory) => Err(RequestFault::OutOfMemory),
         Err(fault) => Err(RequestFault::Refused(fault)),
     }
 }
 
-/// Serves the plans of a file. Unlike that of a whole program, this drops the file's tables: a server may get many.
+/// Serves the plans of a file, and drops its tables: a server may get many.
 ///
 /// # Errors
-/// `Run`, as [`serve`] refuses the plans.
+/// `Run`, as [`serve`](dl_scope::serve) refuses the plans.
 fn served<T: Threads + Wait + Sync>(
     rt: &T,
     alloc: Global,
@@ -126,24 +122,12 @@ fn served<T: Threads + Wait + Sync>(
     options: &Options,
 ) -> Result<Report, RequestFault>
     requires { IfSome options.now.database (λ _. AreNames names.now file.tables) }
-    ensures headline { IfOk result (Headline (file_service options.now file) file.plans.items) }
-    ensures refused { IfErr result (λ e. (fault : ScopeFault) × (e ≡ RequestFault.Run fault)
-        × RefusedAs (file_service options.now file) (setup_of options.now file) file.plans.items fault) }
+    ensures ok { (bytes : List ℕ) → IsPlanFile options.now bytes file → IfOk result (IsReport options.now bytes) }
+    ensures err { (bytes : List ℕ) → IsPlanFile options.now bytes file → IfErr result (IsNoReport options.now bytes) }
 {
-    let PlanFile {
-        tables,
-        plans,
-        limits,
-        table_limits,
-    } = file;
-    let setup = Setup {
-        limits,
-        tables: table_limits,
-        workers: options.workers,
-        queue: QUEUE_PLACES,
-    };
-    let source = JoinedTables::new(&tables, names, &options.database);
-    match serve(rt, alloc, hashing, &source, setup, plans, &NoGate) {
+    let (left, tables) = document::served(rt, alloc, hashing, file, names, options);
+    drop(tables);
+    match left {
         Ok(report) => Ok(report),
         Err(fault) => Err(RequestFault::Run(fault)),
     }
