@@ -1,1 +1,4 @@
-mod Chains
+mod Answered
+mod Filled
+mod ListTexts
+mod Served

@@ -1,5 +1,5 @@
 -- A report as JSON.
-use Rattle.std.specs.Prelude.{ℕ, List, ◌++◌, codes, map}
+use Rattle.std.specs.Prelude.{ℕ, List, codes, map}
 use Rattle.serde_json.specs.Data.{Data, unsigned, number, string, array, object, Members, no_members, member}
 use Rattle.serde_json.specs.View.{items_of}
 use Rattle.serde_json.specs.Written.{compact_text}
@@ -7,7 +7,6 @@ use Rattle.dl_values.specs.declared.outcome.BatchFault.{BatchFault}
 use Rattle.dl_values.specs.declared.outcome.BatchFault.TheVariants.{Source, Memory, Unsent}
 use Rattle.dl_documents.specs.Script.{key_tree}
 use Rattle.dl_haxl.specs.declared.step_answers.StepAnswer.{StepAnswer}
-use Rattle.dl_picture.specs.JsonText.{quoted_text}
 use Rattle.dl_scope.specs.Report.{Report}
 use Rattle.dl_terms.specs.declared.answer.Answer.{Answer}
 use Rattle.dl_terms.specs.declared.answer.Answer.TheVariants.{Value, Fault}
@@ -33,12 +32,6 @@ abbrev pub batch_members : BatchFault → Members
 batch_members (Source text) = member (codes "text") (string text) no_members
 batch_members Memory = member (codes "unfetched") (string (codes "memory")) no_members
 batch_members Unsent = member (codes "unfetched") (string (codes "unsent")) no_members
-
--- the same, as a text without braces
-abbrev pub batch_member : BatchFault → List ℕ
-batch_member (Source text) = codes "\"text\":" ++ quoted_text text
-batch_member Memory = codes "\"unfetched\":\"memory\""
-batch_member Unsent = codes "\"unfetched\":\"unsent\""
 
 -- why the term of a step has no value
 abbrev pub fault_tree : EvalFault → ℕ → Data

@@ -1,8 +1,9 @@
 //! Writes a report as JSON.
+#![tactic(auto, unfolding(json::specs::Print::escape_byte))]
 
-ghost use Rattle.std.specs.Prelude.{◌≡◌, ◌++◌, IfOk, OnOk, string_bytes};
-ghost use Rattle.serde_json.specs.Written.{compact_text};
-ghost use Rattle.dl_server.specs.AnswerJson.{answer_tree, answers_tree, batch_member, fault_tree, report_json, rounds_tree};
+ghost use Rattle.std.specs.Prelude.{◌≡◌, ◌++◌, true, IfOk, OnOk, string_bytes};
+ghost use Rattle.serde_json.specs.Written.{compact_text, members_text};
+ghost use Rattle.dl_server.specs.AnswerJson.{answer_tree, answers_tree, batch_members, fault_tree, report_json, rounds_tree};
 
 use dl_desk::BatchFault;
 use dl_picture::{key_text, quoted_text};
@@ -22,9 +23,10 @@ pub fn report_json(alloc: Global, report: &Report) -> Result<String, AllocError>
 {
     let mut out = String::from_str(alloc, "{\"answers\":[")?;
     let mut before = "";
-    for answers in report.answers() {
+    let plans = report.answers();
+    for answers in plans {
         out.push_str(before)?;
-        push_answers(alloc, &mut out, answers)?;
+        push_answers(alloc, &mut out, answers.as_slice())?;
         before = ",";
     }
     out.push_str("],\"rounds\":")?;
@@ -40,10 +42,12 @@ fn push_rounds(out: &mut String, rounds: &[u64]) -> Result<(), AllocError>
     out.push_str("[")?;
     let mut before = "";
     for count in rounds {
-        write!(out, "{before}{count}")?;
+        out.push_str(before)?;
+        write!(out, "{count}")?;
         before = ",";
     }
-    out.push_str("]")
+    out.push_str("]")?;
+    Ok(())
 }
 
 /// Appends the list of what the terms of a plan answer.
@@ -57,7 +61,8 @@ fn push_answers(alloc: Global, out: &mut String, answers: &[StepAnswer]) -> Resu
         push_answer(alloc, out, given)?;
         before = ",";
     }
-    out.push_str("]")
+    out.push_str("]")?;
+    Ok(())
 }
 
 /// Appends what a term answers.
@@ -93,10 +98,10 @@ fn push_fault(
         }
         EvalFault::Batch { key, fault } => {
             let key = key_text(alloc, key)?;
-            let member = batch_member(alloc, fault)?;
+            let rest = batch_members(alloc, fault)?;
             write!(
                 out,
-                "{{\"fault\":\"batch\",\"key\":{key},\"step\":{step},{member}}}"
+                "{{\"fault\":\"batch\",\"key\":{key},\"step\":{step}{rest}"
             )
         }
         EvalFault::NoField => write!(out, "{{\"fault\":\"NoField\",\"step\":{step}}}"),
@@ -107,16 +112,17 @@ fn push_fault(
     }
 }
 
-/// The member that says why a batch failed: the text with which the source broke, or why the batch was given up.
-fn batch_member(alloc: Global, fault: &BatchFault) -> Result<String, AllocError>
-    ensures { IfOk result (λ member. string_bytes member ≡ batch_member fault.now) }
+/// The end of an object, from a comma on: why a batch failed, with the text with which the source broke, or that the batch
+/// was given up.
+fn batch_members(alloc: Global, fault: &BatchFault) -> Result<String, AllocError>
+    ensures { IfOk result (λ rest. string_bytes rest ≡ members_text true (batch_members fault.now)) }
 {
     match fault {
         BatchFault::Source(text) => {
             let text = quoted_text(alloc, text.as_str())?;
-            format!(in alloc; "\"text\":{text}")
+            format!(in alloc; ",\"text\":{text}}}")
         }
-        BatchFault::Memory => String::from_str(alloc, "\"unfetched\":\"memory\""),
-        BatchFault::Unsent => String::from_str(alloc, "\"unfetched\":\"unsent\""),
+        BatchFault::Memory => String::from_str(alloc, ",\"unfetched\":\"memory\"}"),
+        BatchFault::Unsent => String::from_str(alloc, ",\"unfetched\":\"unsent\"}"),
     }
 }

@@ -1,6 +1,6 @@
 //! The command line.
 
-ghost use Rattle.std.specs.Prelude.{◌≡◌, IfOk, IfSome, false, map, option_map, string_bytes};
+ghost use Rattle.std.specs.Prelude.{◌≡◌, ◌&&◌, IfOk, IfSome, false, is_some, map, option_map, string_bytes};
 ghost use Rattle.clap.specs.Words.{app_of, found_of, matches_of, rows_of, rule_of};
 ghost use Rattle.dl_server.specs.Words.{AreGiven, Gives, database_rule, server_app, tables_rule, workers_rule};
 
@@ -31,7 +31,7 @@ pub fn given_settings<'a, S: AsStr>(alloc: Global, words: &'a [S]) -> Result<Set
     let mut command = command(alloc)?;
     match read(alloc, &mut command, words) {
         Ok(Some(settings)) => {
-            if settings.database.is_some() && settings.tables.is_some() {
+            if has_two_files(&settings) {
                 return Err(out_of_sources(&mut command));
             }
             Ok(settings)
@@ -42,6 +42,13 @@ pub fn given_settings<'a, S: AsStr>(alloc: Global, words: &'a [S]) -> Result<Set
             _ => Err(error),
         },
     }
+}
+
+/// Whether two files are named.
+fn has_two_files(settings: &Settings) -> bool
+    ensures { result ≡ (is_some settings.now.database && is_some settings.now.tables) }
+{
+    settings.database.is_some() && settings.tables.is_some()
 }
 
 /// What the words give by the command line, or `None` if a number is out of range.
@@ -64,14 +71,17 @@ fn read<'a, S: AsStr>(
 fn given(alloc: Global, matches: &ArgMatches) -> Result<Option<Settings>, AllocError>
     ensures { IfOk result (λ given. IfSome given (Gives (rows_of (found_of matches.now)))) }
 {
-    match matches.get_one::<u32>("workers") {
-        Some(workers) if (1..=16).contains(&workers) => Ok(Some(Settings {
-            workers,
-            database: copied(alloc, matches.get_str("database"))?,
-            tables: copied(alloc, matches.get_str("tables"))?,
-        })),
-        _ => Ok(None),
-    }
+    let workers = match matches.get_one::<u32>("workers") {
+        Some(workers) if (1..=16).contains(&workers) => workers,
+        _ => return Ok(None),
+    };
+    let database = copied(alloc, matches.get_str("database"))?;
+    let tables = copied(alloc, matches.get_str("tables"))?;
+    Ok(Some(Settings {
+        workers,
+        database,
+        tables,
+    }))
 }
 
 /// A copy of a text, if there is one.

@@ -2,6 +2,7 @@
 
 ghost use Rattle.std.specs.Prelude.{◌≢◌, ℕ, List, OnOk};
 ghost use Rattle.std.specs.Io.KnownBytes.{Appends, Consumes};
+ghost use Rattle.http_server.specs.Connection.{history};
 ghost use Rattle.http_server.specs.History.{History, IsDone};
 ghost use Rattle.dl_server.specs.Answers.{IsAnswered};
 
@@ -43,7 +44,7 @@ pub fn serve_connection<R: Read, W: Write, T: Threads + Wait + Sync>(
     writer: &mut W,
     options: &Options,
 ) -> io::Result<()>
-    ensures answers { (read : List ℕ) × (sent : List ℕ) × (h : History)
+    ensures { (read : List ℕ) × (sent : List ℕ) × (h : History)
         × Consumes (R.remaining reader.old) (R.remaining reader.new) read
         × Appends (W.contents writer.old) (W.contents writer.new) sent
         × IsAnswered options.now read sent h × OnOk result (IsDone h × (h.state ≢ State.Aborted)) }
@@ -56,6 +57,16 @@ pub fn serve_connection<R: Read, W: Write, T: Threads + Wait + Sync>(
         options,
     };
     serve(&mut connection, &mut requests, reader, writer)?;
+    ended(&connection)
+}
+
+/// How a connection ended.
+///
+/// # Errors
+/// `OutOfMemory`, if it gave up since memory ran out.
+fn ended(connection: &Connection) -> io::Result<()>
+    ensures { OnOk result ((history connection.now).state ≢ State.Aborted) }
+{
     match connection.state() {
         State::Aborted => Err(ErrorKind::OutOfMemory.into()),
         State::Open | State::Closing(_) | State::Upgraded => Ok(()),

@@ -1,6 +1,7 @@
 //! The media type of a request's body.
 
-ghost use Rattle.std.specs.Prelude.{◌≡◌, option_copied};
+ghost use Rattle.std.specs.Prelude.{◌≡◌, bytes_eq, codes, map, option_copied};
+ghost use Rattle.std.specs.Char.{to_ascii_lowercase};
 ghost use Rattle.dl_server.specs.Media.{ends_type, is_json, may_be_json};
 
 use http::{HeaderMap, HeaderValue, header};
@@ -21,9 +22,17 @@ pub(crate) fn may_be_json(headers: &HeaderMap<HeaderValue>) -> bool
 fn is_json(value: &[u8]) -> bool
     ensures { result ≡ is_json value.now }
 {
-    value.len() >= JSON.len()
-        && value[..JSON.len()].eq_ignore_ascii_case(JSON)
-        && ends_type(value.get(JSON.len()))
+    if value.len() < JSON.len() {
+        return false;
+    }
+    is_name(&value[..JSON.len()]) && ends_type(value.get(JSON.len()))
+}
+
+/// Whether these bytes are the name of JSON's type, in any case.
+fn is_name(name: &[u8]) -> bool
+    ensures { result ≡ bytes_eq (map to_ascii_lowercase name.now) (codes "application/json") }
+{
+    name.eq_ignore_ascii_case(JSON)
 }
 
 /// Whether a type ends in front of this byte: there is none, or parameters begin with it.
@@ -31,7 +40,7 @@ fn ends_type(next: Option<&u8>) -> bool
     ensures { result ≡ ends_type (option_copied next.entry) }
 {
     match next {
-        Some(byte) => matches!(*byte, b';' | b' ' | b'\t'),
+        Some(byte) => *byte == b';' || *byte == b' ' || *byte == b'\t',
         None => true,
     }
 }

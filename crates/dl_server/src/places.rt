@@ -1,7 +1,7 @@
 //! What a request asks for.
 
 ghost use Rattle.std.specs.Prelude.{◌≡◌};
-ghost use Rattle.dl_server.specs.Asked.{asked_at, asked_for, is_reading, place_of};
+ghost use Rattle.dl_server.specs.Asked.{asked_at, asked_for, is_reading, place_of, posted};
 
 /// A place that the server has.
 #[derive(Clone, Copy, Debug, PartialEq, Eq)]
@@ -61,11 +61,32 @@ fn asked_at(place: Place, method: &str) -> Asked
     ensures { result ≡ asked_at place method.now }
 {
     match place {
-        Place::Top if is_reading(method) => Asked::Page,
-        Place::Top if method == "POST" => Asked::Answers,
-        Place::Picture if method == "POST" => Asked::Picture,
-        Place::Health if is_reading(method) => Asked::Health,
-        _ => Asked::NoMethod(place),
+        Place::Top => {
+            if is_reading(method) {
+                Asked::Page
+            } else {
+                posted(Asked::Answers, place, method)
+            }
+        }
+        Place::Picture => posted(Asked::Picture, place, method),
+        Place::Health => {
+            if is_reading(method) {
+                Asked::Health
+            } else {
+                Asked::NoMethod(place)
+            }
+        }
+    }
+}
+
+/// What a request asks of a place that takes plan files: this, if it is a POST.
+fn posted(wanted: Asked, place: Place, method: &str) -> Asked
+    ensures { result ≡ posted wanted place method.now }
+{
+    if method == "POST" {
+        wanted
+    } else {
+        Asked::NoMethod(place)
     }
 }
 

@@ -1,7 +1,8 @@
 //! Writes refusals as JSON.
+#![tactic(auto, unfolding(json::specs::Print::escape_byte))]
 
 ghost use Rattle.std.specs.Prelude.{◌≡◌, IfOk, string_bytes};
-ghost use Rattle.dl_server.specs.RefusalJson.{limit_name, refusal_json, scope_fault_json, scope_name, table_name};
+ghost use Rattle.dl_server.specs.RefusalJson.{refusal_json, scope_fault_json, script_json};
 
 use dl_documents::PlanFault;
 use dl_scope::ScopeFault;
@@ -34,14 +35,46 @@ pub fn refusal_json(alloc: Global, fault: PlanFault) -> Result<String, AllocErro
         PlanFault::TooManySteps { plan } => {
             format!(in alloc; "{{\"plan\":{plan},\"refused\":\"too many steps\"}}")
         }
-        PlanFault::Table(fault) => {
-            format!(in alloc; "{{\"refused\":\"table {}\"}}", table_name(fault))
-        }
-        PlanFault::Limit(fault) => {
-            format!(in alloc; "{{\"refused\":\"limit {}\"}}", limit_name(fault))
-        }
+        PlanFault::Table(fault) => String::from_str(alloc, table_refusal(fault)),
+        PlanFault::Limit(fault) => String::from_str(alloc, limit_refusal(fault)),
         PlanFault::OutOfMemory => String::from_str(alloc, "{\"refused\":\"memory\"}"),
     }
+}
+
+/// Why tables are refused.
+fn table_refusal(fault: TableFault) -> &'static str
+    ensures { result.now ≡ refusal_json (PlanFault.Table fault) }
+{
+    match fault {
+        TableFault::Shape => "{\"refused\":\"table Shape\"}",
+        TableFault::BadKey => "{\"refused\":\"table BadKey\"}",
+        TableFault::TextTooLong => "{\"refused\":\"table TextTooLong\"}",
+        TableFault::NotWhole => "{\"refused\":\"table NotWhole\"}",
+        TableFault::DuplicateTable => "{\"refused\":\"table DuplicateTable\"}",
+        TableFault::DuplicateKey => "{\"refused\":\"table DuplicateKey\"}",
+        TableFault::OutOfMemory => "{\"refused\":\"table OutOfMemory\"}",
+    }
+}
+
+/// Why limits are refused.
+fn limit_refusal(fault: LimitFault) -> &'static str
+    ensures { result.now ≡ refusal_json (PlanFault.Limit fault) }
+{
+    match fault {
+        LimitFault::BatchLimit => "{\"refused\":\"limit BatchLimit\"}",
+        LimitFault::CellLimit => "{\"refused\":\"limit CellLimit\"}",
+        LimitFault::CallLimit => "{\"refused\":\"limit CallLimit\"}",
+    }
+}
+
+/// What is answered to a call script, as JSON.
+///
+/// # Errors
+/// `AllocError` if memory runs out.
+pub(crate) fn script_json(alloc: Global) -> Result<String, AllocError>
+    ensures { IfOk result (λ text. string_bytes text ≡ script_json) }
+{
+    String::from_str(alloc, "{\"refused\":\"script\"}")
 }
 
 /// Why plans aren't served, as JSON: an object with the member `failed`, the name of the fault.
@@ -51,49 +84,23 @@ pub fn refusal_json(alloc: Global, fault: PlanFault) -> Result<String, AllocErro
 pub fn scope_fault_json(alloc: Global, fault: ScopeFault) -> Result<String, AllocError>
     ensures { IfOk result (λ text. string_bytes text ≡ scope_fault_json fault) }
 {
-    format!(in alloc; "{{\"failed\":\"{}\"}}", scope_name(fault))
+    String::from_str(alloc, scope_failure(fault))
 }
 
-/// The name of a fault of tables.
-fn table_name(fault: TableFault) -> &'static str
-    ensures { result.now ≡ table_name fault }
+/// Why plans aren't served.
+fn scope_failure(fault: ScopeFault) -> &'static str
+    ensures { result.now ≡ scope_fault_json fault }
 {
     match fault {
-        TableFault::Shape => "Shape",
-        TableFault::BadKey => "BadKey",
-        TableFault::TextTooLong => "TextTooLong",
-        TableFault::NotWhole => "NotWhole",
-        TableFault::DuplicateTable => "DuplicateTable",
-        TableFault::DuplicateKey => "DuplicateKey",
-        TableFault::OutOfMemory => "OutOfMemory",
-    }
-}
-
-/// The name of a fault of limits.
-fn limit_name(fault: LimitFault) -> &'static str
-    ensures { result.now ≡ limit_name fault }
-{
-    match fault {
-        LimitFault::BatchLimit => "BatchLimit",
-        LimitFault::CellLimit => "CellLimit",
-        LimitFault::CallLimit => "CallLimit",
-    }
-}
-
-/// The name of a fault of serving plans.
-fn scope_name(fault: ScopeFault) -> &'static str
-    ensures { result.now ≡ scope_name fault }
-{
-    match fault {
-        ScopeFault::NoPlans => "NoPlans",
-        ScopeFault::TooManyPlans => "TooManyPlans",
-        ScopeFault::BadWorkers => "BadWorkers",
-        ScopeFault::Start(_) => "Start",
-        ScopeFault::Queue(_) => "Queue",
-        ScopeFault::Run { .. } => "Run",
-        ScopeFault::Stopped => "Stopped",
-        ScopeFault::Close(_) => "Close",
-        ScopeFault::Unfetched { .. } => "Unfetched",
-        ScopeFault::OutOfMemory => "OutOfMemory",
+        ScopeFault::NoPlans => "{\"failed\":\"NoPlans\"}",
+        ScopeFault::TooManyPlans => "{\"failed\":\"TooManyPlans\"}",
+        ScopeFault::BadWorkers => "{\"failed\":\"BadWorkers\"}",
+        ScopeFault::Start(_) => "{\"failed\":\"Start\"}",
+        ScopeFault::Queue(_) => "{\"failed\":\"Queue\"}",
+        ScopeFault::Run { .. } => "{\"failed\":\"Run\"}",
+        ScopeFault::Stopped => "{\"failed\":\"Stopped\"}",
+        ScopeFault::Close(_) => "{\"failed\":\"Close\"}",
+        ScopeFault::Unfetched { .. } => "{\"failed\":\"Unfetched\"}",
+        ScopeFault::OutOfMemory => "{\"failed\":\"OutOfMemory\"}",
     }
 }

@@ -1,8 +1,9 @@
 //! Fills responses.
 
-ghost use Rattle.std.specs.Prelude.{◌≡◌, ◌∷◌, ◌++◌, [], OnOk, codes, string_bytes};
+ghost use Rattle.std.specs.Prelude.{◌≡◌, ◌∷◌, ◌++◌, [], IsTrue, OnOk, codes, string_bytes};
+ghost use Rattle.http_header.specs.FieldValue.{is_visible_text};
 ghost use Rattle.http_server.specs.Response.{IsBlank, IsResponse, fields_of};
-ghost use Rattle.dl_server.specs.Responses.{allowed, json_type, line_type, typed};
+ghost use Rattle.dl_server.specs.Responses.{allowed, json_type, line_type, page_type, picture_type, typed};
 
 use crate::places::Place;
 use bytes::Bytes;
@@ -19,8 +20,38 @@ pub(crate) fn reply_json(
     requires { IsBlank response.old }
     ensures { OnOk result (IsResponse status (typed json_type) (string_bytes text) response.new) }
 {
-    let kind = HeaderValue::from_static("application/json");
-    reply(response, status, kind, Bytes::from_string(text)?)
+    reply(
+        response,
+        status,
+        "application/json",
+        Bytes::from_string(text)?,
+    )
+}
+
+/// Fills a response with this picture.
+pub(crate) fn reply_picture(response: &mut Response, picture: String) -> Result<(), AllocError>
+    requires { IsBlank response.old }
+    ensures { OnOk result (IsResponse 200 (typed picture_type) (string_bytes picture) response.new) }
+{
+    reply(
+        response,
+        StatusCode::OK,
+        "image/svg+xml",
+        Bytes::from_string(picture)?,
+    )
+}
+
+/// Fills a response with this page.
+pub(crate) fn reply_page(response: &mut Response, page: &'static str) -> Result<(), AllocError>
+    requires { IsBlank response.old }
+    ensures { OnOk result (IsResponse 200 (typed page_type) page.now response.new) }
+{
+    reply(
+        response,
+        StatusCode::OK,
+        "text/html; charset=utf-8",
+        Bytes::from_static(page.as_bytes()),
+    )
 }
 
 /// Fills a response with this status and this line of text.
@@ -29,11 +60,15 @@ pub(crate) fn reply_line(
     status: StatusCode,
     line: &'static str,
 ) -> Result<(), AllocError>
-    requires { response.old.body.items ≡ [] }
-    ensures { OnOk result (IsResponse status (fields_of response.old ++ typed line_type) line.now response.new) }
+    requires { IsBlank response.old }
+    ensures { OnOk result (IsResponse status (typed line_type) line.now response.new) }
 {
-    let kind = HeaderValue::from_static("text/plain; charset=utf-8");
-    reply(response, status, kind, Bytes::from_static(line.as_bytes()))
+    reply(
+        response,
+        status,
+        "text/plain; charset=utf-8",
+        Bytes::from_static(line.as_bytes()),
+    )
 }
 
 /// Fills a response to a request that a place doesn't do.
@@ -43,10 +78,11 @@ pub(crate) fn reply_no_method(response: &mut Response, place: Place) -> Result<(
         (codes "method not allowed\n") response.new) }
 {
     response.add_header(header::ALLOW, allowed(place))?;
-    reply_line(
+    reply(
         response,
         StatusCode::METHOD_NOT_ALLOWED,
-        "method not allowed\n",
+        "text/plain; charset=utf-8",
+        Bytes::from_static("method not allowed\n".as_bytes()),
     )
 }
 
@@ -62,16 +98,18 @@ fn allowed(place: Place) -> HeaderValue
 }
 
 /// Fills a response with this status, this type and this body.
-pub(crate) fn reply(
+fn reply(
     response: &mut Response,
     status: StatusCode,
-    kind: HeaderValue,
+    kind: &'static str,
     body: Bytes,
 ) -> Result<(), AllocError>
-    requires { response.old.body.items ≡ [] }
-    ensures { OnOk result (IsResponse status (fields_of response.old ++ (codes "content-type", kind.bytes) ∷ []) body response.new) }
+    requires visible { IsTrue (is_visible_text kind.now) }
+    requires empty { response.old.body.items ≡ [] }
+    ensures { OnOk result (IsResponse status (fields_of response.old ++ typed kind.now) body response.new) }
 {
     response.status = status;
-    response.add_header(header::CONTENT_TYPE, kind)?;
-    response.body.push(body)
+    response.add_header(header::CONTENT_TYPE, HeaderValue::from_static(kind))?;
+    response.body.push(body)?;
+    Ok(())
 }

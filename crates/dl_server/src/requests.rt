@@ -1,20 +1,18 @@
 //! Answers requests.
 
-ghost use Rattle.std.specs.Prelude.{◌≡◌, OnOk};
-ghost use Rattle.http_server.specs.Response.{IsBlank, IsResponse};
-ghost use Rattle.dl_server.specs.Answers.{AnswersIt, AnswersPicture, AnswersPlans, Says};
-ghost use Rattle.dl_server.specs.Responses.{page_type, typed};
-ghost use Rattle.dl_server.specs.declared.page.TheConstants.{PAGE};
+ghost use Rattle.std.specs.Prelude.{◌≡◌, OnOk, codes};
+ghost use Rattle.http_server.specs.Response.{IsBlank};
+ghost use Rattle.dl_server.specs.Answers.{Answered, AnswersIt, AnswersPicture, AnswersPlans, IsLine, Says};
 
 use crate::answer_json::report_json;
 use crate::media::may_be_json;
 use crate::page::PAGE;
 use crate::places::{Asked, asked_for};
-use crate::refusals::{refusal_json, scope_fault_json};
-use crate::replies::{reply, reply_json, reply_line, reply_no_method};
+use crate::refusals::{refusal_json, scope_fault_json, script_json};
+use crate::replies::{reply_json, reply_line, reply_no_method, reply_page, reply_picture};
 use bytes::Bytes;
 use dl_plans::{Options, RequestFault, draw_request, serve_request};
-use http::{HeaderValue, Request, StatusCode};
+use http::{Request, StatusCode};
 use http_server::{Response, Service};
 use std::alloc::{AllocError, Global};
 use std::hash::RandomState;
@@ -48,18 +46,40 @@ impl<'r, T: Threads + Wait + Sync> Requests<'r, T> {
         requires { IsBlank response.old }
         ensures { OnOk result (AnswersIt self.now.options.now request.now response.new) }
     {
+        let asked = asked_for(request.method().as_str(), request.uri().path());
         let is_json = may_be_json(request.headers());
         let bytes = request.body().as_slice();
-        match asked_for(request.method().as_str(), request.uri().path()) {
-            Asked::Page => show_page(response),
+        self.reply_as(asked, is_json, bytes, response)
+    }
+
+    /// Fills a response to a request that asks for this, with a body that may be JSON or not.
+    fn reply_as(
+        &self,
+        asked: Asked,
+        is_json: bool,
+        bytes: &[u8],
+        response: &mut Response,
+    ) -> Result<(), AllocError>
+        requires { IsBlank response.old }
+        ensures { OnOk result (Answered self.now.options.now asked is_json bytes.now response.new) }
+    {
+        match asked {
+            Asked::Page => reply_page(response, PAGE),
             Asked::Health => reply_line(response, StatusCode::OK, "ok\n"),
-            Asked::Answers if is_json => self.answer(bytes, response),
-            Asked::Picture if is_json => self.draw(bytes, response),
-            Asked::Answers | Asked::Picture => reply_line(
-                response,
-                StatusCode::UNSUPPORTED_MEDIA_TYPE,
-                "the body must be application/json\n",
-            ),
+            Asked::Answers => {
+                if is_json {
+                    self.answer(bytes, response)
+                } else {
+                    refuse_type(response)
+                }
+            }
+            Asked::Picture => {
+                if is_json {
+                    self.draw(bytes, response)
+                } else {
+                    refuse_type(response)
+                }
+            }
             Asked::NoPlace => reply_line(response, StatusCode::NOT_FOUND, "not found\n"),
             Asked::NoMethod(place) => reply_no_method(response, place),
         }
@@ -85,10 +105,7 @@ impl<'r, T: Threads + Wait + Sync> Requests<'r, T> {
         ensures { OnOk result (AnswersPicture self.now.options.now bytes.now response.new) }
     {
         match draw_request(self.rt, self.alloc, self.hashing, bytes, self.options) {
-            Ok(picture) => {
-                let kind = HeaderValue::from_static("image/svg+xml");
-                reply(response, StatusCode::OK, kind, Bytes::from_string(picture)?)
-            }
+            Ok(picture) => reply_picture(response, picture),
             Err(fault) => self.refuse(fault, response),
         }
     }
@@ -103,32 +120,30 @@ impl<'r, T: Threads + Wait + Sync> Requests<'r, T> {
     {
         match fault {
             RequestFault::Refused(fault) => {
-                let text = refusal_json(self.alloc, fault)?;
-                reply_json(response, StatusCode::BAD_REQUEST, text)
+                let refusal = refusal_json(self.alloc, fault)?;
+                reply_json(response, StatusCode::BAD_REQUEST, refusal)
             }
             RequestFault::Script => {
-                let text = String::from_str(self.alloc, "{\"refused\":\"script\"}")?;
-                reply_json(response, StatusCode::UNPROCESSABLE_ENTITY, text)
+                let script = script_json(self.alloc)?;
+                reply_json(response, StatusCode::UNPROCESSABLE_ENTITY, script)
             }
             RequestFault::Run(fault) => {
-                let text = scope_fault_json(self.alloc, fault)?;
-                reply_json(response, StatusCode::INTERNAL_SERVER_ERROR, text)
+                let failure = scope_fault_json(self.alloc, fault)?;
+                reply_json(response, StatusCode::INTERNAL_SERVER_ERROR, failure)
             }
             RequestFault::OutOfMemory => Err(AllocError),
         }
     }
 }
 
-/// Fills a response with the page.
-fn show_page(response: &mut Response) -> Result<(), AllocError>
+/// Fills a response to a body that isn't said to be JSON.
+fn refuse_type(response: &mut Response) -> Result<(), AllocError>
     requires { IsBlank response.old }
-    ensures { OnOk result (IsResponse 200 (typed page_type) PAGE response.new) }
+    ensures { OnOk result (IsLine 415 (codes "the body must be application/json\n") response.new) }
 {
-    let kind = HeaderValue::from_static("text/html; charset=utf-8");
-    reply(
+    reply_line(
         response,
-        StatusCode::OK,
-        kind,
-        Bytes::from_static(PAGE.as_bytes()),
+        StatusCode::UNSUPPORTED_MEDIA_TYPE,
+        "the body must be application/json\n",
     )
 }

@@ -1,6 +1,8 @@
 //! Reads the tables that answer every request.
 
 ghost use Rattle.std.specs.Prelude.{IfOk};
+ghost use Rattle.serde_json.specs.View.{view};
+ghost use Rattle.dl_documents.specs.Document.{IsTextOf};
 ghost use Rattle.dl_server.specs.Source.{IsListed};
 
 use dl_source::{TableFault, Tables};
@@ -31,12 +33,23 @@ pub enum ListFault {
 pub fn listed_tables(alloc: Global, hashing: RandomState, bytes: &[u8]) -> Result<Tables, ListFault>
     ensures { IfOk result (IsListed bytes.now) }
 {
+    let value = value_of(alloc, bytes)?;
+    match Tables::from_owned_value(alloc, hashing, value) {
+        Ok(tables) => Ok(tables),
+        Err(TableFault::OutOfMemory) => Err(ListFault::OutOfMemory),
+        Err(fault) => Err(ListFault::Table(fault)),
+    }
+}
+
+/// The JSON value that these bytes are the text of.
+///
+/// # Errors
+/// `NotJson` or `OutOfMemory`.
+fn value_of(alloc: Global, bytes: &[u8]) -> Result<Value, ListFault>
+    ensures { IfOk result (λ value. IsTextOf bytes.now (view value)) }
+{
     match Value::from_slice(alloc, bytes) {
-        Ok(value) => match Tables::from_owned_value(alloc, hashing, value) {
-            Ok(tables) => Ok(tables),
-            Err(TableFault::OutOfMemory) => Err(ListFault::OutOfMemory),
-            Err(fault) => Err(ListFault::Table(fault)),
-        },
+        Ok(value) => Ok(value),
         Err(error) if error.is_memory() => Err(ListFault::OutOfMemory),
         Err(_) => Err(ListFault::NotJson),
     }
