@@ -1,30 +1,16 @@
-//! What the crates of tests share, and the tests of the crates below the shared loader.
+//! What the crates of tests share.
 //!
-//! The crates share the tables of users that worked rows read, tables that count the questions to them, tables with no
-//! memory for one of them, many keys, and plans, terms, answers and long lists from their texts. They also share how
-//! tests compare, and what they ask of the library below them, which refuses a call its n-th growth or thread.
-//!
-//! The tests here are of what no contract says. Cells show what somebody has set, whatever threads do. A desk takes the
-//! most keys that it may have. The reference loader replies. And a call that ran out of memory answers as ever when you
-//! make it again. Documents and calls of the C library test keys, limits, tables and terms from outside.
+//! These are the tables of users that worked rows read, tables that count the questions to them, tables with no memory
+//! for one of them, many keys, and plans, terms, answers and long lists from their texts; how tests compare; and what
+//! they ask of the library below them, which refuses a call its n-th growth or thread.
 #![tactic(auto)]
 
-#[cfg(test)]
-mod bodies;
-#[cfg(test)]
-mod cells;
 mod comparison;
 mod counted_tables;
-#[cfg(test)]
-mod desk;
 mod no_room;
 mod numbered;
 mod plans;
-#[cfg(test)]
-mod reference;
 mod refusals;
-#[cfg(test)]
-mod refused;
 mod texts;
 mod users;
 

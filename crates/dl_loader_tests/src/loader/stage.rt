@@ -1,6 +1,6 @@
 //! What you open loaders with, and what the library refuses their calls.
 
-ghost use Rattle.std.specs.Prelude.{◌≡◌};
+ghost use Rattle.std.specs.Prelude.{◌≡◌, IfOk};
 
 use super::hashing;
 use super::step::Row;
@@ -46,65 +46,52 @@ impl<R: Abort + Eprint> Stage<'_, R> {
         let (max_batch, max_cells, max_calls) = row.limits;
         let limits = Limits::new(max_batch, max_cells, max_calls);
         let limits = limits.expect(self.rt, "no limits");
+        let (tables, copy) = (self.tables(), self.tables());
+        let name = match self.table {
+            Some(_) => "Opening::by_table",
+            None => "Opening::new",
+        };
+        self.refusal.begin();
+        let first = self.open(source, limits, tables, row.callers);
+        let is_out_of_memory = matches!(first, Err(StartFault::OutOfMemory));
+        if self.refusal.is_again(self.rt, name, is_out_of_memory) {
+            let again = self.open(source, limits, copy, row.callers);
+            return again.expect(self.rt, "no opening");
+        }
+        first.expect(self.rt, "no opening")
+    }
+
+    /// An opening with these limits of tables. With `None`, its batches may mix tables.
+    fn open<'s, S: Source>(
+        &self,
+        source: &'s S,
+        limits: Limits,
+        tables: Option<TableLimits>,
+        callers: u32,
+    ) -> Result<Opening<'s, S>, StartFault>
+        ensures { IfOk result (λ opening. opening.source ≡ source.now) }
+    {
+        let (alloc, hashing) = (self.alloc, self.hashing);
+        match tables {
+            Some(tables) => Opening::by_table(alloc, hashing, source, limits, tables, callers),
+            None => Opening::new(alloc, hashing, source, limits, callers),
+        }
+    }
+
+    /// The limits by which batches of the stage's table have one key.
+    fn tables(&self) -> Option<TableLimits> {
         match self.table {
-            Some(table) => self.opening_by_table(source, limits, row.callers, table),
-            None => self.mixed_opening(source, limits, row.callers),
+            Some(table) => Some(self.limit_of_one(table)),
+            None => None,
         }
-    }
-
-    /// An opening whose batches may mix tables.
-    fn mixed_opening<'s, S: Source>(
-        &self,
-        source: &'s S,
-        limits: Limits,
-        callers: u32,
-    ) -> Opening<'s, S>
-        ensures { result.source ≡ source.now }
-    {
-        let (alloc, hashing) = (self.alloc, self.hashing);
-        self.refusal.begin();
-        let first = Opening::new(alloc, hashing, source, limits, callers);
-        let is_out_of_memory = matches!(first, Err(StartFault::OutOfMemory));
-        if self
-            .refusal
-            .is_again(self.rt, "Opening::new", is_out_of_memory)
-        {
-            let again = Opening::new(alloc, hashing, source, limits, callers);
-            return again.expect(self.rt, "no opening");
-        }
-        first.expect(self.rt, "no opening")
-    }
-
-    /// An opening with one table in each batch. The batches of this table have one key.
-    fn opening_by_table<'s, S: Source>(
-        &self,
-        source: &'s S,
-        limits: Limits,
-        callers: u32,
-        table: &str,
-    ) -> Opening<'s, S>
-        ensures { result.source ≡ source.now }
-    {
-        let (alloc, hashing) = (self.alloc, self.hashing);
-        let (tables, copy) = (self.limit_of_one(table), self.limit_of_one(table));
-        self.refusal.begin();
-        let first = Opening::by_table(alloc, hashing, source, limits, tables, callers);
-        let is_out_of_memory = matches!(first, Err(StartFault::OutOfMemory));
-        if self
-            .refusal
-            .is_again(self.rt, "Opening::by_table", is_out_of_memory)
-        {
-            let again = Opening::by_table(alloc, hashing, source, limits, copy, callers);
-            return again.expect(self.rt, "no opening");
-        }
-        first.expect(self.rt, "no opening")
     }
 
     /// The limits by which batches of a table have one key.
     fn limit_of_one(&self, table: &str) -> TableLimits {
         let table = Text::new(self.alloc, table).expect(self.rt, "no text");
-        let list = vec![in self.alloc; TableLimit { table, limit: 1 }];
-        let list = list.expect(self.rt, "no memory");
+        let mut list = Vec::new(self.alloc);
+        let pushed = list.push(TableLimit { table, limit: 1 });
+        pushed.expect(self.rt, "no memory");
         TableLimits::new(self.alloc, list).expect(self.rt, "no limits")
     }
 }

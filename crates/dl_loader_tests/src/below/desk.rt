@@ -1,7 +1,7 @@
 //! Desks with the most keys: their calls allocate once at their largest.
 
-use crate::{assert_is, numbered_keys};
 use dl_desk::{Desk, DeskReply, FetchKey, Limits};
+use dl_tests::{assert_is, numbered_keys};
 use std::alloc::Global;
 use std::hash::RandomState;
 use std::process::Abort;

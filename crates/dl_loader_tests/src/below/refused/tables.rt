@@ -1,9 +1,9 @@
 //! Tables, and what you fetch from them.
 
-use crate::refused::Stage;
-use crate::{USERS, assert_is, made, outcome_text};
+use crate::below::refused::Stage;
 use dl_desk::{Job, Keys, Outcome};
 use dl_source::{BatchAnswer, Fetched, TableFault, Tables, fetch_job};
+use dl_tests::{USERS, assert_is, made, outcome_text};
 use serde_json::Value;
 use std::io::Eprint;
 use std::process::Abort;

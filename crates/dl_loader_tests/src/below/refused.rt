@@ -10,7 +10,7 @@ mod tables;
 mod terms;
 mod values;
 
-use crate::{Kind, MOST_GROWTHS, Refusal};
+use dl_tests::{Kind, MOST_GROWTHS, Refusal};
 use std::alloc::Global;
 use std::hash::RandomState;
 use std::io::Eprint;

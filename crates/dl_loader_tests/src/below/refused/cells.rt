@@ -3,9 +3,9 @@
 ghost use Rattle.std.specs.Prelude.{◌≡◌};
 ghost use Rattle.dl_cells.specs.Cells.{row_len};
 
-use crate::refused::Stage;
-use crate::{Kind, Refusal, made};
+use crate::below::refused::Stage;
 use dl_cells::CellRow;
+use dl_tests::{Kind, Refusal, made};
 use std::io::Eprint;
 use std::process::Abort;
 

@@ -1,9 +1,9 @@
 //! The reference loader: what no contract says. It replies to each call.
 
-use crate::assert_is;
 use dl_desk::Text;
 use dl_documents::{Input, Script, read_input};
 use dl_reference::{Atom, Rules, answer};
+use dl_tests::assert_is;
 use std::alloc::Global;
 use std::hash::RandomState;
 use std::process::Abort;

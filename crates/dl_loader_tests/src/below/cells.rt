@@ -2,8 +2,8 @@
 ghost use Rattle.std.specs.Prelude.{◌≡◌, ◌<◌};
 ghost use Rattle.dl_cells.specs.Cells.{row_len, cell_of};
 
-use crate::assert_is;
 use dl_cells::{CellRow, Reader};
+use dl_tests::assert_is;
 use std::alloc::Global;
 use std::io::Eprint;
 use std::process::Abort;

@@ -1,11 +1,11 @@
 //! Keys, texts, values and limits of tables.
 
-use crate::refused::Stage;
-use crate::{assert_is, json, made, made_once, outcome_text};
+use crate::below::refused::Stage;
 use dl_desk::{
     BatchFault, FetchKey, Job, Json, KeyFault, Keys, List, Message, Outcome, TableLimit,
     TableLimitFault, TableLimits, Text,
 };
+use dl_tests::{assert_is, json, made, made_once, outcome_text};
 use serde_json::Value;
 use std::io::Eprint;
 use std::process::Abort;

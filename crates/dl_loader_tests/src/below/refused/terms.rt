@@ -1,9 +1,9 @@
 //! Terms, explored round by round.
 
-use crate::refused::Stage;
-use crate::{ADA, BOB, FRIENDS, assert_is, ids_text, json, made, term};
+use crate::below::refused::Stage;
 use dl_desk::{FetchKey, Outcome};
 use dl_terms::{Answer, Asked, Node, Term, explore, unexplored};
+use dl_tests::{ADA, BOB, FRIENDS, assert_is, ids_text, json, made, term};
 use std::io::Eprint;
 use std::process::Abort;
 

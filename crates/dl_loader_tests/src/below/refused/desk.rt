@@ -1,10 +1,10 @@
 //! Desks: a call that ran out of memory changes nothing, and the next one answers as if it were the first.
 
-use crate::refused::Stage;
-use crate::{assert_is, made, made_once};
+use crate::below::refused::Stage;
 use dl_desk::{
     BatchState, Desk, DeskFault, DeskPrime, DeskReply, FetchKey, Job, Limits, LoadReply,
 };
+use dl_tests::{assert_is, made, made_once};
 use std::io::Eprint;
 use std::process::Abort;
 use std::slice;
