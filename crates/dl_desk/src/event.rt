@@ -94,10 +94,9 @@ impl fmt::Display for Reply {
     }
 }
 
-// Out of line, since a call that is made lets no event go. Most are loads, of which only the key is let go.
+// Most events are loads, of which only the key is let go.
 impl Drop for Event {
-    #[cold]
-    #[inline(never)]
+    #[inline(always)]
     fn drop(self) {
         let Event {
             caller: _,

@@ -63,11 +63,16 @@ impl<L: LoaderName> Journal<L> {
         let place = self.next_place(rows);
         let first = self.next_cell(rows, cells);
         let Ok(mut reader) = self.grow(rows, place, first, cells) else {
+            let_go(event);
             return Err(AppendFault::OutOfMemory);
         };
-        let Ok(stored) = PlacedEvent::store(rows.log(), place, &mut reader, event) else {
-            self.cut_cells(first);
-            return Err(AppendFault::LogRefused);
+        let stored = match PlacedEvent::store(rows.log(), place, &mut reader, event) {
+            Ok(stored) => stored,
+            Err(event) => {
+                let_go(event);
+                self.cut_cells(first);
+                return Err(AppendFault::LogRefused);
+            }
         };
         self.add(&stored, share);
         Ok(stored)
@@ -161,4 +166,12 @@ impl<L: LoaderName> Journal<L> {
         prove!(first <= most);
         first as u32
     }
+}
+
+/// Lets an event go that the log didn't take.
+// Out of line, so that a call that is made has no code for it.
+#[cold]
+#[inline(never)]
+fn let_go(event: Event) {
+    drop(event);
 }
