@@ -56,6 +56,16 @@ static void leave(dl_loader *loader)
 #endif
 }
 
+static void leave_held(dl_loader **held)
+{
+    leave(*held);
+}
+
+/* Holds the lock to the end of the block. */
+#define HOLD(loader)                                                \
+    __attribute__((cleanup(leave_held))) dl_loader *held = (loader); \
+    enter(held)
+
 /* ---- open and free */
 
 /* Makes so many conditions, of the clock that deadlines are of. How many were made. */
@@ -176,43 +186,33 @@ void dl_loader_free(dl_loader *loader)
 
 dl_ticket dl_loader_load(dl_loader *loader, uint32_t caller, DL_KEY)
 {
-    enter(loader);
-    dl_ticket answer = dl_serial_load(&loader->serial, caller, table, table_len, id, id_len);
-    leave(loader);
-    return answer;
+    HOLD(loader);
+    return dl_serial_load(&loader->serial, caller, table, table_len, id, id_len);
 }
 
 uint32_t dl_loader_load_many(dl_loader *loader, uint32_t caller, const uint8_t *texts, size_t texts_len,
                              const dl_key_lengths *lengths, size_t lengths_len, dl_ticket *answers, size_t answers_len)
 {
-    enter(loader);
-    uint32_t code = dl_serial_load_many(&loader->serial, caller, texts, texts_len, lengths, lengths_len, answers, answers_len);
-    leave(loader);
-    return code;
+    HOLD(loader);
+    return dl_serial_load_many(&loader->serial, caller, texts, texts_len, lengths, lengths_len, answers, answers_len);
 }
 
 uint32_t dl_loader_clear(dl_loader *loader, uint32_t caller, DL_KEY)
 {
-    enter(loader);
-    uint32_t code = dl_serial_clear(&loader->serial, caller, table, table_len, id, id_len);
-    leave(loader);
-    return code;
+    HOLD(loader);
+    return dl_serial_clear(&loader->serial, caller, table, table_len, id, id_len);
 }
 
 uint32_t dl_loader_clear_all(dl_loader *loader, uint32_t caller)
 {
-    enter(loader);
-    uint32_t code = dl_serial_clear_all(&loader->serial, caller);
-    leave(loader);
-    return code;
+    HOLD(loader);
+    return dl_serial_clear_all(&loader->serial, caller);
 }
 
 dl_dispatched dl_loader_dispatch(dl_loader *loader, uint32_t caller)
 {
-    enter(loader);
-    dl_dispatched answer = dl_serial_dispatch(&loader->serial, caller);
-    leave(loader);
-    return answer;
+    HOLD(loader);
+    return dl_serial_dispatch(&loader->serial, caller);
 }
 
 /* ---- ends, which show cells */
@@ -266,7 +266,7 @@ static uint32_t count_code(dl_loader *loader, uint32_t batch, size_t count)
 
 uint32_t dl_loader_settle(dl_loader *loader, uint32_t caller, uint32_t batch, const uint64_t *words, size_t words_len)
 {
-    enter(loader);
+    HOLD(loader);
     uint32_t code = count_code(loader, batch, words_len);
     if (code == DL_DONE) {
         code = dl_serial_settle(&loader->serial, caller, batch);
@@ -274,30 +274,27 @@ uint32_t dl_loader_settle(dl_loader *loader, uint32_t caller, uint32_t batch, co
     if (code == DL_DONE) {
         show_batch(loader, batch, DL_SETTLED, words, false);
     }
-    leave(loader);
     return code;
 }
 
 uint32_t dl_loader_fail(dl_loader *loader, uint32_t caller, uint32_t batch, uint64_t word)
 {
-    enter(loader);
+    HOLD(loader);
     uint32_t code = dl_serial_fail(&loader->serial, caller, batch);
     if (code == DL_DONE) {
         show_batch(loader, batch, DL_FAILED, &word, true);
     }
-    leave(loader);
     return code;
 }
 
 /* No thread waits for a cell that a prime begins: a load that finds it is made later. */
 dl_loaded dl_loader_prime(dl_loader *loader, uint32_t caller, DL_KEY, uint64_t word)
 {
-    enter(loader);
+    HOLD(loader);
     dl_loaded answer = dl_serial_prime(&loader->serial, caller, table, table_len, id, id_len);
     if (answer.code == DL_FRESH) {
         show(loader, answer.cell, (dl_shown){DL_SETTLED, word});
     }
-    leave(loader);
     return answer;
 }
 
@@ -305,10 +302,8 @@ dl_loaded dl_loader_prime(dl_loader *loader, uint32_t caller, DL_KEY, uint64_t w
 
 dl_loaded dl_loader_member(dl_loader *loader, uint32_t batch, uint32_t index, dl_key_texts *texts)
 {
-    enter(loader);
-    dl_loaded answer = dl_serial_member(&loader->serial, batch, index, texts);
-    leave(loader);
-    return answer;
+    HOLD(loader);
+    return dl_serial_member(&loader->serial, batch, index, texts);
 }
 
 dl_shown dl_loader_look(const dl_loader *loader, uint32_t number)
@@ -361,10 +356,8 @@ dl_shown dl_loader_wait_until(dl_loader *loader, uint32_t cell, const struct tim
 
 uint32_t dl_loader_saw(dl_loader *loader, uint32_t caller, size_t ticket)
 {
-    enter(loader);
-    uint32_t code = dl_serial_saw(&loader->serial, caller, ticket);
-    leave(loader);
-    return code;
+    HOLD(loader);
+    return dl_serial_saw(&loader->serial, caller, ticket);
 }
 
 /* Ends all waits if a call was made after which no empty cell gets a word. Under the lock. */
@@ -380,19 +373,17 @@ static void end_waits(dl_loader *loader, uint32_t code)
 
 uint32_t dl_loader_stop(dl_loader *loader)
 {
-    enter(loader);
+    HOLD(loader);
     uint32_t code = dl_serial_stop(&loader->serial);
     end_waits(loader, code);
-    leave(loader);
     return code;
 }
 
 uint32_t dl_loader_close(dl_loader *loader)
 {
-    enter(loader);
+    HOLD(loader);
     uint32_t code = dl_serial_close(&loader->serial);
     end_waits(loader, code);
-    leave(loader);
     return code;
 }
 
@@ -400,24 +391,18 @@ uint32_t dl_loader_close(dl_loader *loader)
 
 dl_event dl_loader_event(dl_loader *loader, uint32_t at)
 {
-    enter(loader);
-    dl_event answer = dl_serial_event(&loader->serial, at);
-    leave(loader);
-    return answer;
+    HOLD(loader);
+    return dl_serial_event(&loader->serial, at);
 }
 
 dl_loaded dl_loader_event_key(dl_loader *loader, uint32_t at, size_t index, dl_key_texts *texts)
 {
-    enter(loader);
-    dl_loaded answer = dl_serial_event_key(&loader->serial, at, index, texts);
-    leave(loader);
-    return answer;
+    HOLD(loader);
+    return dl_serial_event_key(&loader->serial, at, index, texts);
 }
 
 dl_entry dl_loader_entry(dl_loader *loader, uint32_t caller, size_t index)
 {
-    enter(loader);
-    dl_entry answer = dl_serial_entry(&loader->serial, caller, index);
-    leave(loader);
-    return answer;
+    HOLD(loader);
+    return dl_serial_entry(&loader->serial, caller, index);
 }

@@ -34,7 +34,7 @@ pub extern "C" fn dl_serial_dispatch(alloc: Global, handle: &mut Handle, caller:
         return Dispatched::refused(CLOSED);
     };
     let (held, answer) = dispatch::<Brand>(alloc, held, caller);
-    *handle = Handle::opened(held);
+    handle.open(held);
     answer
 }
 
@@ -87,7 +87,7 @@ pub extern "C" fn dl_serial_member(
         return Loaded::refused(CLOSED);
     };
     let (held, answer) = member::<Brand>(alloc, held, batch, index, texts);
-    *handle = Handle::opened(held);
+    handle.open(held);
     answer
 }
 
@@ -150,7 +150,7 @@ pub extern "C" fn dl_serial_settle(
         return CLOSED;
     };
     let (held, answer) = settle::<Brand>(alloc, held, caller, batch);
-    *handle = Handle::opened(held);
+    handle.open(held);
     answer
 }
 
@@ -214,7 +214,7 @@ pub extern "C" fn dl_serial_fail(alloc: Global, handle: &mut Handle, caller: u32
         return CLOSED;
     };
     let (held, answer) = fail::<Brand>(alloc, held, caller, batch);
-    *handle = Handle::opened(held);
+    handle.open(held);
     answer
 }
 

@@ -44,7 +44,7 @@ pub extern "C" fn dl_serial_load(
         return LoadTicket::refused(CLOSED);
     };
     let (held, answer) = load::<Brand>(alloc, held, caller, table, id);
-    *handle = Handle::opened(held);
+    handle.open(held);
     answer
 }
 
@@ -120,7 +120,7 @@ pub extern "C" fn dl_serial_prime(
         return Loaded::refused(CLOSED);
     };
     let (held, answer) = prime::<Brand>(alloc, held, caller, table, id);
-    *handle = Handle::opened(held);
+    handle.open(held);
     answer
 }
 
@@ -192,7 +192,7 @@ pub extern "C" fn dl_serial_clear(
         return CLOSED;
     };
     let (held, answer) = clear::<Brand>(alloc, held, caller, table, id);
-    *handle = Handle::opened(held);
+    handle.open(held);
     answer
 }
 
@@ -255,7 +255,7 @@ pub extern "C" fn dl_serial_clear_all(alloc: Global, handle: &mut Handle, caller
         return CLOSED;
     };
     let (held, answer) = clear_all::<Brand>(alloc, held, caller);
-    *handle = Handle::opened(held);
+    handle.open(held);
     answer
 }
 

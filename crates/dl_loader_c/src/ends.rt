@@ -33,7 +33,7 @@ pub extern "C" fn dl_serial_saw(
         return CLOSED;
     };
     let (held, answer) = saw::<Brand>(held, caller, ticket);
-    *handle = Handle::opened(held);
+    handle.open(held);
     answer
 }
 
@@ -80,7 +80,7 @@ pub extern "C" fn dl_serial_stop(alloc: Global, handle: &mut Handle) -> u32
         return CLOSED;
     };
     let (held, answer) = stop::<Brand>(held);
-    *handle = Handle::opened(held);
+    handle.open(held);
     answer
 }
 
@@ -121,7 +121,7 @@ pub extern "C" fn dl_serial_close(alloc: Global, handle: &mut Handle) -> u32
         return CLOSED;
     };
     let (held, code) = close::<Brand>(alloc, held);
-    *handle = Handle::opened(held);
+    handle.open(held);
     code
 }
 

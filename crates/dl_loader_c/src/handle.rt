@@ -122,22 +122,21 @@ impl Handle {
     pub fn closed(alloc: Global) -> Handle
         ensures { result.is_open ≡ false }
     {
-        Handle {
+        crossing(Handle {
             is_open: false,
             held: Held::none(alloc),
-        }
+        })
     }
 
-    /// A handle of what is kept.
-    pub fn opened(held: HeldOf<Brand>) -> Handle
-        ensures is_open { result.is_open ≡ true }
-        ensures name { result.held.name ≡ held.name }
-        ensures kept { result.held.kept ≡ held.kept }
+    /// Has the handle keep this.
+    // By its fields: a new handle would be copied with the bytes between them.
+    pub fn open(&mut self, held: HeldOf<Brand>)
+        ensures is_open { self.new.is_open ≡ true }
+        ensures name { self.new.held.name ≡ held.name }
+        ensures kept { self.new.held.kept ≡ held.kept }
     {
-        crossing(Handle {
-            is_open: true,
-            held: Held::pack(held),
-        })
+        self.held = Held::pack(held);
+        self.is_open = true;
     }
 }
 

@@ -44,7 +44,7 @@ pub extern "C" fn dl_serial_load_many(
         return CLOSED;
     };
     let (held, answer) = load_many::<Brand>(alloc, held, caller, texts, lengths, answers);
-    *handle = Handle::opened(held);
+    handle.open(held);
     answer
 }
 

@@ -103,7 +103,7 @@ fn keep(alloc: Global, handle: &mut Handle, opening: Opening<'_, HostSource>) ->
 {
     match start::<Brand>(alloc, opening) {
         Ok(held) => {
-            *handle = Handle::opened(held);
+            handle.open(held);
             DONE
         }
         Err(code) => code,

@@ -55,7 +55,7 @@ pub extern "C" fn dl_serial_event(alloc: Global, handle: &mut Handle, at: u32) -
         return ToldEvent::none(CLOSED);
     };
     let (held, answer) = event::<Brand>(held, at);
-    *handle = Handle::opened(held);
+    handle.open(held);
     answer
 }
 
@@ -102,7 +102,7 @@ pub extern "C" fn dl_serial_event_key(
         return Loaded::refused(CLOSED);
     };
     let (held, answer) = event_key::<Brand>(held, at, index, texts);
-    *handle = Handle::opened(held);
+    handle.open(held);
     answer
 }
 
@@ -159,7 +159,7 @@ pub extern "C" fn dl_serial_entry(
         return ToldEntry::none(CLOSED);
     };
     let (held, answer) = entry::<Brand>(held, caller, index);
-    *handle = Handle::opened(held);
+    handle.open(held);
     answer
 }
 
