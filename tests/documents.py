@@ -1484,7 +1484,7 @@ ROWS["a run ends with its status"] = [
         "help",
         LOAD,
         ("--help", "-h", "--batches --help", "help"),
-        output=Holding("", ("Usage: plans", "migrate", "help", "--workers <N>", "[default: 3]", "--batches", "--explain", "--help")),
+        output=Holding("", ("Usage: plans", "migrate", "help", "--workers <N>", "[default: 3]", "--max-answer <N>", "--batches", "--explain", "--help")),
         is_read=False,
     ),
     Row(
@@ -1504,6 +1504,10 @@ ROWS["a run ends with its status"] = [
     usage("workers in part", "--workers 1.0", "--workers takes a number from 1 to 16", "Usage: plans"),
     usage("workers without their number", "--workers", "a value is required for '--workers <N>'"),
     usage("workers twice", "--workers 1 --workers 1", "the argument '--workers <N>' cannot be used multiple times"),
+    usage("no bytes of answers", "--max-answer 0", "--workers takes a number from 1 to 16, --max-answer one from 1 to 4294967295", "Usage: plans"),
+    usage("too many bytes of answers", "--max-answer 4294967296", "--workers takes a number from 1 to 16, --max-answer one", "Usage: plans"),
+    usage("bytes of answers that are no number", "--max-answer 1k", "--workers takes a number from 1 to 16, --max-answer one", "Usage: plans"),
+    usage("bytes of answers twice", "--max-answer 1 --max-answer 1", "the argument '--max-answer <N>' cannot be used multiple times"),
     usage("a picture and a trace of one name", "--picture x --trace x", "two options name the same file", "Usage: plans"),
     usage("a picture in place of the database", "--database=x --picture=x migrate", "two options name the same file", "Usage: plans"),
     usage("a flag with a value", "--batches=true", "unexpected value 'true' for '--batches'"),
@@ -1513,8 +1517,8 @@ ROWS["a run ends with its status"] = [
     usage("workers behind migrate", "migrate --workers 3", "unexpected argument '--workers' found", "Usage: plans migrate"),
     usage("a word behind migrate", "migrate script.json", "unexpected argument 'script.json' found", "Usage: plans migrate"),
     usage("no workers, and migrate", "--workers 0 migrate", "--workers takes a number from 1 to 16", "Usage: plans"),
-    usage("a version that is not to be written", "migrate --to 1", "--workers takes a number from 1 to 16, and --to 2 or 3", "Usage: plans"),
-    usage("a version that isn't there", "migrate --to 4", "--workers takes a number from 1 to 16, and --to 2 or 3", "Usage: plans"),
+    usage("a version that is not to be written", "migrate --to 1", "--workers takes a number from 1 to 16, --max-answer one from 1 to 4294967295, and --to 2 or 3", "Usage: plans"),
+    usage("a version that isn't there", "migrate --to 4", "--workers takes a number from 1 to 16, --max-answer one from 1 to 4294967295, and --to 2 or 3", "Usage: plans"),
     usage("two versions to write", "migrate --to 2 --to 3", "the argument '--to <N>' cannot be used multiple times"),
     usage("a version to write, and no migrate", "--to 3", "unexpected argument '--to' found", "Usage: plans"),
     # The byte 255.
@@ -1867,4 +1871,71 @@ ROWS["faults are explained on request, behind an answer"] = [
     usage("the option with a value", "--explain=true", "unexpected value 'true' for '--explain'"),
     usage("the option twice", "--explain --explain", "the argument '--explain' cannot be used multiple times"),
     usage("the option behind migrate", "migrate --explain", "unexpected argument '--explain' found", "Usage: plans migrate"),
+]
+
+# ---- room
+
+ADA = '[{"name":"user","rows":[["u1",{"name":"Ada","ids":["u1","u1"]}]]}]'
+OF_ADA = '{"ids":["u1","u1"],"name":"Ada"}'
+LOAD_ADA = '{"load":["user","u1"]}'
+
+
+def no_room(about, text, most, plan=0, **others):
+    """The row of a plan that needs more than so many bytes, at the least one."""
+    why = f"plan {plan} needs more than --max-answer, {most} bytes, or memory ran out\n"
+    lines = (f"--max-answer {most} --explain", f"--explain --workers 1 --max-answer={most}")
+    return Row(about, text, lines, status=3, error=f"{why}failed: Run\n", **others)
+
+
+def fitting(about, most, *terms_and_values):
+    """Two rows: a plan of these terms gives these values with so much room, and with a byte less none. Each pair is a term and a value."""
+    text = document(plan_file_3(*(term for term, _ in terms_and_values), tables=ADA))
+    output = "".join(f"0 {step} ok {value}\n" for step, (_, value) in enumerate(terms_and_values))
+    lines = ("", f"--max-answer {most}", f"--workers 1 --max-answer={most} --explain", "--max-answer 4294967295")
+    return [Row(about, text, lines, output=output), no_room(f"{about}, and a byte less", text, most - 1)]
+
+
+# Of 1,024 numbers each.
+MANY = f'{{"value":[{",".join(["7"] * 1_024)}]}}'
+# A row of 500,000 bytes, and one with its id 1,024 times.
+LARGE = document(
+    '{"version":1,"tables":[{"name":"user","rows":[["u1","', ("x", 500_000), '"],["u2",{"ids":["u1"', (',"u1"', 1_023), "]}]]}],",
+    '"plans":[[{"eval":{"each":[{"load":["user","u2"]},"ids","user"]}}]]}',
+)  # fmt: skip
+ROWS["answers have a bound"] = [
+    *fitting("a load", len(OF_ADA), (LOAD_ADA, OF_ADA)),
+    *fitting("two loads of one row", 2 * len(OF_ADA), (LOAD_ADA, OF_ADA), (LOAD_ADA, OF_ADA)),
+    *fitting("a text, as it is written", 6, ('{"value":"é\\n"}', '"é\\n"')),
+    *fitting("a pick, which is a copy", 2 * 5, ('{"pick":[%s,"name"]}' % LOAD_ADA, '"Ada"')),
+    *fitting("a pick of a list", 2 * len('["u1","u1"]') + 2 * 64, ('{"pick":[%s,"ids"]}' % LOAD_ADA, '["u1","u1"]')),
+    *fitting(
+        "a pick of objects, whose copies are larger than their texts",
+        2 * len('{"b":{"c":1,"d":{}}}') + 2 * 640 + 64,
+        ('{"pick":[{"value":{"a":{"b":{"c":1,"d":{}}}}},"a"]}', '{"b":{"c":1,"d":{}}}'),
+    ),
+    *fitting("an each of two ids", 2 * 64 + 2 * len(OF_ADA) + 3, ('{"each":[%s,"ids","user"]}' % LOAD_ADA, f"[{OF_ADA},{OF_ADA}]")),
+    *fitting("an over of two items, which are copies", 5 + 2 * 64 + 2 * 64 + 5, ('{"over":[{"value":[1,2]},%s]}' % ITEM, "[1,2]")),
+    *fitting(
+        "an over in an over, whose body is a copy too",
+        9 + 4 * 64 + 2 * (4 * 64 + 3 + 64) + 9,
+        ('{"over":[{"value":[[1],[2]]},{"over":[%s,%s]}]}' % (ITEM, ITEM), "[[1],[2]]"),
+    ),
+    *fitting("an object, whose names come in any order", 13, ('{"object":{"b":{"value":2},"a":{"value":1}}}', '{"a":1,"b":2}')),
+    *fitting(
+        "ids in an object of lists, which are a copy",
+        11 + 2 * 64 + 2 * 64 + 2 * len(OF_ADA) + 3,
+        ('{"each":[{"object":{"ids":{"all":[{"value":"u1"},{"value":"u1"}]}}},"ids","user"]}', f"[{OF_ADA},{OF_ADA}]"),
+    ),
+    answered(
+        "each plan has room of its own",
+        '{"version":1,"tables":%s,"plans":[[{"eval":%s}],[{"eval":%s}]]}' % (ADA, LOAD_ADA, LOAD_ADA),
+        f"0 0 ok {OF_ADA}",
+        f"1 0 ok {OF_ADA}",
+        command_lines=(f"--max-answer {len(OF_ADA)}",),
+    ),
+    answered("a script has no plans", LOAD, "fresh 0 0", command_lines=("--max-answer 1",)),
+    no_room("512 megabytes of one row", LARGE, 1_000_000, is_checked=False),
+    no_room("512 megabytes of one row, and only the ids fit", LARGE, 1_024 * 64, is_checked=False),
+    no_room("a thousand million nodes", document(plan_file_3(f'{{"over":[{MANY},{{"over":[{MANY},{{"over":[{MANY},{ITEM}]}}]}}]}}')), 10_000_000, is_checked=False),
+    Row("no explanation", document(plan_file_3(LOAD_ADA, tables=ADA)), ("--max-answer 1",), status=3, error="failed: Run\n"),
 ]

@@ -32,6 +32,7 @@ pub(crate) fn served<R: Threads + Wait + Sync>(
         tables: None,
         workers,
         queue: QUEUE,
+        max_answer: None,
     };
     let report = serve(
         scene.rt,

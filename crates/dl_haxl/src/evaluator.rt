@@ -17,13 +17,14 @@ use crate::outlet::Outlet;
 use crate::run::TermRun;
 use dl_desk::FetchKey;
 use dl_loader::{Loader, LoaderName, Pass, Stopped, Ticket};
-use dl_terms::{Answer, Term, laws};
+use dl_terms::{Answer, Room, Term, laws};
 use futures::task::Poll;
 use std::alloc::Global;
 use std::hash::RandomState;
 use std::sync::Wait;
 
-/// What it takes to evaluate terms: the loader that loads their keys, and the outlet to which the dispatched jobs go.
+/// What it takes to evaluate terms: the loader that loads their keys, the outlet to which the dispatched jobs go, and
+/// the room that the terms share.
 #[derive(Drop)]
 pub(crate) struct Evaluator<'l, L: LoaderName, O> {
     pub(crate) alloc: Global,
@@ -31,6 +32,8 @@ pub(crate) struct Evaluator<'l, L: LoaderName, O> {
     pub(crate) hashing: RandomState,
     pub(crate) loader: &'l Loader<L>,
     pub(crate) outlet: &'l O,
+    // What the terms may still make; without a room there is no bound.
+    pub(crate) room: &'l Option<Room>,
 }
 
 impl<'l, L: LoaderName, O: Outlet<L>> Evaluator<'l, L, O> {
@@ -57,7 +60,7 @@ impl<'l, L: LoaderName, O: Outlet<L>> Evaluator<'l, L, O> {
         ensures fault { IfErr result (IsRunFault L.service pass.old.trace.caller pass.new.flags) }
         ensures grows { OnErr result (Grows pass.old.trace pass.new.trace) }
     {
-        let mut run = TermRun::new(self.alloc, self.hashing, term)?;
+        let mut run = TermRun::in_room(self.alloc, self.hashing, term, self.room.as_ref())?;
         self.go_on(rt, seat, pass, &mut run)
     }
 

@@ -61,6 +61,7 @@ pub fn run_term<L: LoaderName, R: Wait>(
         hashing,
         loader,
         outlet: queue,
+        room: &None,
     };
     evaluator.evaluate(rt, sender, pass, term)
 }

@@ -64,6 +64,7 @@ pub fn run_inline<L: LoaderName, S: Source>(
         hashing,
         loader,
         outlet: &outlet,
+        room: &None,
     };
     evaluator.evaluate(rt, &mut (), pass, term)
 }

@@ -11,7 +11,7 @@ use crate::stage::Stage;
 use crate::ticket_outcomes::{all_shown, learn};
 use dl_desk::FetchKey;
 use dl_loader::{LoaderName, Ticket};
-use dl_terms::{Answer, Asked, Node, Term, explore, unexplored};
+use dl_terms::{Answer, Asked, Node, Room, Term, explore, unexplored};
 use futures::future::Future;
 use futures::task::{Context, Poll};
 use std::alloc::{AllocError, Global};
@@ -76,10 +76,27 @@ impl<'l, L: LoaderName> TermRun<'l, L> {
         ensures asked { IfOk result (λ run. asked_by (seen run) ≡ []) }
         ensures open { IfOk result (λ run. ended_by (seen run) ≡ None) }
     {
+        TermRun::in_room(alloc, hashing, term, None)
+    }
+
+    /// The same in a room, if there is one. If it is used up, a poll answers as if memory ran out.
+    pub(crate) fn in_room(
+        alloc: Global,
+        hashing: RandomState,
+        term: Term,
+        room: Option<&'l Room>,
+    ) -> Result<TermRun<'l, L>, AllocError>
+        ensures run { IfOk result (λ run. IsRunOf (term_view term) (seen run)) }
+        ensures learned { IfOk result (λ run. (seen run).learned ≡ []) }
+        ensures tickets { IfOk result (λ run. (seen run).tickets ≡ []) }
+        ensures wanted { IfOk result (λ run. wanted_by (seen run) ≡ []) }
+        ensures asked { IfOk result (λ run. asked_by (seen run) ≡ []) }
+        ensures open { IfOk result (λ run. ended_by (seen run) ≡ None) }
+    {
         Ok(TermRun {
             alloc,
             root: unexplored(alloc, term)?,
-            asked: Asked::new(alloc, hashing),
+            asked: Asked::in_room(alloc, hashing, room),
             tickets: Vec::new(alloc),
             stage: Stage::Learning,
         })
@@ -134,8 +151,8 @@ impl<'l, L: LoaderName> TermRun<'l, L> {
         }
     }
 
-    /// Explores what is left of the term, once all tickets show their outcomes. If memory runs out on the way, the run
-    /// has ended for good.
+    /// Explores what is left of the term, once all tickets show their outcomes. If memory or the room runs out on the
+    /// way, the run has ended for good.
     fn explore(&mut self) -> Result<Option<Answer>, AllocError>
         requires learning { self.old.stage ≡ Learning }
         ensures tickets { AllLater (seen self.old).tickets (seen self.new).tickets }
@@ -151,6 +168,7 @@ impl<'l, L: LoaderName> TermRun<'l, L> {
         learn(&mut self.asked, self.tickets.as_mut_slice())?;
         explore(self.alloc, &mut self.root, &mut self.asked)?;
         let answer = self.root.take_answer();
+        self.asked.spend(answer.as_ref())?;
         self.stage = match answer {
             Some(_) => Stage::Ended(PollFault::Finished),
             None => Stage::Wanting,

@@ -16,7 +16,7 @@ use crate::step_answers::{StepAnswer, StepAnswers};
 use dl_desk::{FetchKey, Outcome};
 use dl_loader::{Loader, LoaderName, Pass, PrimeReply};
 use dl_queue::{JobQueue, Sender};
-use dl_terms::{Answer, Step};
+use dl_terms::{Answer, Room, Step};
 use std::alloc::{AllocError, Global};
 use std::hash::RandomState;
 use std::sync::Wait;
@@ -43,11 +43,12 @@ fn add(
 
 /// Takes the steps of a plan, in order: a prime, a clear and a clearAll are calls of the pass, and
 /// [`run_term`](crate::run_term) says how a term goes. You get the answers of the terms, and how many rounds of loads
-/// they took.
+/// they took. With `max_answer` the terms share a [`Room`] of so many bytes, and take the text of each answer from it.
 ///
 /// # Errors
-/// That of the first step that meets one: those of `run_term`, and `Stopped` if a primed cell refuses its outcome. What
-/// the pass gained until then stays. If others may wait for what this caller would have done, stop the loader then.
+/// That of the first step that meets one: those of `run_term`, `OutOfMemory` also if the room is used up, and `Stopped`
+/// if a primed cell refuses its outcome. What the pass gained until then stays. If others may wait for what this caller
+/// would have done, stop the loader then.
 ///
 /// # Examples
 /// The thread of a plan takes its steps, and stops the loader if one fails, in `crates/dl_scope`:
@@ -62,6 +63,7 @@ fn add(
 ///     queue,
 ///     &mut sender,
 ///     steps,
+///     max_answer,
 /// );
 /// if given.is_err() {
 ///     loader.stop(rt);
@@ -76,6 +78,7 @@ pub fn take_steps<L: LoaderName, R: Wait>(
     queue: &JobQueue,
     sender: &mut Sender,
     steps: Vec<Step>,
+    max_answer: Option<u64>,
 ) -> Result<StepAnswers, RunFault>
     requires seat { IsSenderOf queue.now sender.old }
     ensures seat { IsSenderOf queue.now sender.new }
@@ -86,11 +89,13 @@ pub fn take_steps<L: LoaderName, R: Wait>(
     ensures fault { IfErr result (IsRunFault L.service pass.old.trace.caller pass.new.flags) }
     ensures grows { OnErr result (Grows pass.old.trace pass.new.trace) }
 {
+    let room = max_answer.map(Room::new);
     let evaluator = Evaluator {
         alloc,
         hashing,
         loader,
         outlet: queue,
+        room: &room,
     };
     let mut given = StepAnswers {
         answers: Vec::new(alloc),

@@ -24,6 +24,18 @@ workers_rule = record (new_rule (codes "workers")) {
   defaults = codes "3" ∷ [];
 }
 
+-- the most that `--max-answer` takes
+abbrev pub most_answer : ℕ
+most_answer = 4294967295
+
+-- `--max-answer N`, a number from 1 to the most
+abbrev pub max_answer_rule : Rule
+max_answer_rule = record (new_rule (codes "max-answer")) {
+  long = Some (codes "max-answer");
+  value_names = 1;
+  parser = Some (vp.Signed (pos 1) (pos most_answer));
+}
+
 -- `--batches`, a flag
 abbrev pub batches_rule : Rule
 batches_rule = record (new_rule (codes "batches")) { long = Some (codes "batches"); action = Some SetTrue }
@@ -71,7 +83,7 @@ migrate_app = with_rule (new_app (codes "migrate")) to_rule
 
 -- the options that say how the plans are served, and what standard output has of it
 abbrev pub serving_app : App
-serving_app = with_rule (with_rule (on_top without_name (new_app (codes "plans"))) workers_rule) batches_rule
+serving_app = with_rule (with_rule (with_rule (on_top without_name (new_app (codes "plans"))) workers_rule) max_answer_rule) batches_rule
 
 -- the options for answering a document that name no file
 abbrev pub answering_app : App
@@ -107,6 +119,11 @@ pub record GivesNumber (rows : List Row) (id : Text) (n : ℕ) : Type 0 where
   pub row : one_of id rows ≡ Some text
   pub decimal : IsDecimal text n
 
+-- the most bytes that a plan's answers may take, if the rows have a number
+abbrev pub GivesMost : List Row → Option ℕ → Type 0
+GivesMost rows None = first_of (codes "max-answer") rows ≡ None
+GivesMost rows (Some most) = (1 ≤ most) × (most ≤ most_answer) × GivesNumber rows (codes "max-answer") most
+
 -- whether there are two files, with one name
 abbrev pub have_one_name : Option (String Global) → Option (String Global) → Bool
 have_one_name (Some file) (Some other) = string_eq file other
@@ -129,6 +146,7 @@ pub record AreGiven (rows : List Row) (used : Option (Text × List Row)) (o : Op
   pub workers : GivesNumber rows (codes "workers") o.workers
   pub least : 1 ≤ o.workers
   pub most : o.workers ≤ most_workers
+  pub max_answer : GivesMost rows o.max_answer
   pub batches : one_of (codes "batches") rows ≡ Some (codes "true") → o.batches ≡ true
   pub no_batches : one_of (codes "batches") rows ≡ Some (codes "false") → o.batches ≡ false
   pub explain : one_of (codes "explain") rows ≡ Some (codes "true") → o.explain ≡ true

@@ -50,7 +50,13 @@ queue_places = 16
 
 -- how the program serves a plan file
 abbrev pub setup_of : Options → PlanFile → Setup
-setup_of options file = record { limits = file.limits; tables = file.table_limits; workers = options.workers; queue = queue_places }
+setup_of options file = record {
+  limits = file.limits;
+  tables = file.table_limits;
+  workers = options.workers;
+  queue = queue_places;
+  max_answer = options.max_answer;
+}
 
 -- what serves the plans of a file: its tables answer, and behind them those of the database
 abbrev pub file_service : Options → PlanFile → Service

@@ -2,8 +2,8 @@
 
 ghost use Rattle.std.specs.Prelude.{◌≡◌, IfOk, IfSome, map, option_map, false, string_bytes};
 ghost use Rattle.clap.specs.Words.{app_of, rule_of, found_of, matches_of, rows_of, subcommand_of, subcommand_rows_of};
-ghost use Rattle.dl_plans.specs.Options.{plans_app, plans_words_app, file_words_app, answering_app, serving_app, have_one_name, AreApart, AreGiven};
-ghost use Rattle.dl_plans.specs.Options.{Migrates, migrate_app, to_rule, workers_rule, batches_rule, explain_rule, statistics_rule, picture_rule, trace_rule, database_rule, history_rule};
+ghost use Rattle.dl_plans.specs.Options.{plans_app, plans_words_app, file_words_app, answering_app, serving_app, have_one_name, AreApart, AreGiven, GivesMost};
+ghost use Rattle.dl_plans.specs.Options.{Migrates, migrate_app, to_rule, workers_rule, max_answer_rule, batches_rule, explain_rule, statistics_rule, picture_rule, trace_rule, database_rule, history_rule};
 
 use crate::settings::Options;
 use clap::error::ErrorKind;
@@ -12,10 +12,10 @@ use dl_migration::Target;
 use std::alloc::{AllocError, Global};
 use std::convert::AsStr;
 
-/// The options in the words behind the program's name, `[--workers N] [--batches] [--explain] [--statistics]
-/// [--picture FILE] [--trace FILE] [--database FILE] [--history FILE] [migrate [--to N]]`, and the file of the database.
-/// The number of workers is 1 to 16, and 3 if you don't give it; that behind `migrate` is 2 or 3, and else 2. The options
-/// have no tables of a database yet.
+/// The options in the words behind the program's name, `[--workers N] [--max-answer N] [--batches] [--explain]
+/// [--statistics] [--picture FILE] [--trace FILE] [--database FILE] [--history FILE] [migrate [--to N]]`, and the file of
+/// the database. The number of workers is 1 to 16, and 3 if you don't give it; that behind `migrate` is 2 or 3, and else 2.
+/// The most bytes are 1 to 4,294,967,295, or have no bound. The options have no tables of a database yet.
 ///
 /// # Errors
 /// The help, if the words ask for it; why the words are wrong, with the usage; or that memory ran out.
@@ -91,6 +91,10 @@ fn given(
         Some(workers) if (1..=16).contains(&workers) => workers,
         _ => return Ok(None),
     };
+    let max_answer = match most_bytes(matches) {
+        Some(max_answer) => max_answer,
+        None => return Ok(None),
+    };
     let migrate = match migration(matches) {
         Some(migrate) => migrate,
         None => return Ok(None),
@@ -98,6 +102,7 @@ fn given(
     let database = copied(alloc, matches.get_str("database"))?;
     let options = Options {
         workers,
+        max_answer,
         batches: matches.get_flag("batches"),
         explain: matches.get_flag("explain"),
         statistics: matches.get_flag("statistics"),
@@ -108,6 +113,19 @@ fn given(
         history: copied(alloc, matches.get_str("history"))?,
     };
     Ok(Some((options, database)))
+}
+
+/// The most bytes of a plan's answers, if the matches give a number, or `None` if it is out of range.
+fn most_bytes(matches: &ArgMatches) -> Option<Option<u64>>
+    ensures { IfSome result (GivesMost (rows_of (found_of matches.now))) }
+{
+    match matches.get_str("max-answer") {
+        None => Some(None),
+        Some(_) => match matches.get_one::<u32>("max-answer") {
+            Some(most) if most >= 1 => Some(Some(u64::from(most))),
+            _ => None,
+        },
+    }
 }
 
 /// The version in which to write a document, if the matches ask for that, or `None` if its number is out of range.
@@ -145,7 +163,8 @@ pub(crate) fn unreadable(alloc: Global) -> Error {
 
 /// The error for a number that is out of range, with the usage in its text.
 fn out_of_range(command: &mut Command<'_>) -> Error {
-    let message = "--workers takes a number from 1 to 16, and --to 2 or 3";
+    let message =
+        "--workers takes a number from 1 to 16, --max-answer one from 1 to 4294967295, and --to 2 or 3";
     refused(command, ErrorKind::ValueValidation, message)
 }
 
@@ -225,6 +244,7 @@ fn serving_words<'a>(alloc: Global) -> Result<Command<'a>, AllocError>
         .about("Answers a document that stands on standard input")
         .no_binary_name(true)
         .arg(workers(alloc))?
+        .arg(max_answer(alloc))?
         .arg(batches(alloc))
 }
 
@@ -239,6 +259,18 @@ fn workers<'a>(alloc: Global) -> Arg<'a>
         .value_parser(value_parser!(u32).range(1..=16))
         .default_value("3")
         .help("How many workers fetch for a plan file, 1 to 16")
+}
+
+/// `--max-answer N`.
+fn max_answer<'a>(alloc: Global) -> Arg<'a>
+    ensures rule { rule_of result ≡ max_answer_rule }
+    ensures local { result.global ≡ false }
+{
+    Arg::new(alloc, "max-answer")
+        .long("max-answer")
+        .value_name("N")
+        .value_parser(value_parser!(u32).range(1..=4_294_967_295))
+        .help("The most bytes that a plan's answers may take, with what its terms copy on the way")
 }
 
 /// `--batches`.

@@ -340,6 +340,7 @@ fn served<T: Threads + Wait + Sync>(
         tables: table_limits,
         workers: options.workers,
         queue: QUEUE_PLACES,
+        max_answer: options.max_answer,
     };
     let source = JoinedTables::new(&tables, names, &options.database);
     let left = serve(rt, alloc, hashing, &source, setup, plans, &NoGate);

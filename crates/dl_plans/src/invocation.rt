@@ -151,13 +151,18 @@ fn tell_no_options<R: Print + Eprint>(rt: &R, error: &clap::Error) {
 // ---- how it ends
 
 /// The status of a run. If the run failed, says why in a line on standard error. If you want it explained why plans
-/// weren't served, a line in front of it does.
-pub fn told<R: Eprint>(rt: &R, ran: &Result<(), RunError>, explain: bool) -> u8 {
+/// weren't served, a line in front of it does, by the most bytes that the answers of a plan could take.
+pub fn told<R: Eprint>(
+    rt: &R,
+    ran: &Result<(), RunError>,
+    explain: bool,
+    max_answer: Option<u64>,
+) -> u8 {
     match ran {
         Ok(()) => RAN,
         Err(error) => {
             if explain {
-                tell_unserved(rt, error);
+                tell_unserved(rt, error, max_answer);
             }
             let _ = eprintln!(rt; "{error}");
             error.status()
@@ -166,7 +171,7 @@ pub fn told<R: Eprint>(rt: &R, ran: &Result<(), RunError>, explain: bool) -> u8 
 }
 
 /// Says which limit a plan met, or what a worker may have met. A worker leaves no cause.
-fn tell_unserved<R: Eprint>(rt: &R, error: &RunError) {
+fn tell_unserved<R: Eprint>(rt: &R, error: &RunError, max_answer: Option<u64>) {
     let _ = match error {
         RunError::Run(ScopeFault::Run { plan, fault }) => match fault {
             RunFault::Call(CallFault::CellsFull { limit }) => {
@@ -179,6 +184,7 @@ fn tell_unserved<R: Eprint>(rt: &R, error: &RunError) {
                     "plan {plan} needs more calls than maxCalls, {limit}: give it more, at most 65536"
                 )
             }
+            RunFault::OutOfMemory => tell_no_room(rt, *plan, max_answer),
             _ => eprintln!(rt; "plan {plan}: {fault}"),
         },
         RunError::Run(ScopeFault::Stopped) => {
@@ -186,4 +192,16 @@ fn tell_unserved<R: Eprint>(rt: &R, error: &RunError) {
         }
         _ => Ok(()),
     };
+}
+
+/// Says that a plan met the most bytes that its answers could take, or that memory ran out.
+fn tell_no_room<R: Eprint>(rt: &R, plan: u32, max_answer: Option<u64>) -> io::Result<()> {
+    match max_answer {
+        Some(most) => {
+            eprintln!(rt;
+                "plan {plan} needs more than --max-answer, {most} bytes, or memory ran out"
+            )
+        }
+        None => eprintln!(rt; "plan {plan}: {}", RunFault::OutOfMemory),
+    }
 }

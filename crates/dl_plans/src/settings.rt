@@ -10,6 +10,9 @@ use dl_source::Tables;
 pub struct Options {
     /// How many workers a plan file gets: 1 to 16.
     pub workers: u32,
+    /// The most bytes that the texts of a plan's answers may have, with what its terms copy on the way, if the command line
+    /// gives a number: 1 to 4,294,967,295.
+    pub max_answer: Option<u64>,
     /// Whether to print the rounds and batches of a plan file that has exactly one plan.
     pub batches: bool,
     /// Whether to say where the faults of a plan file's answers come from.
@@ -36,6 +39,7 @@ impl Options {
     {
         let Options {
             workers,
+            max_answer,
             batches,
             explain,
             statistics,
@@ -47,6 +51,7 @@ impl Options {
         } = self;
         Options {
             workers,
+            max_answer,
             batches,
             explain,
             statistics,

@@ -58,6 +58,7 @@ pub const MOST_WORKERS: u32 = 16;
 ///     tables: None,
 ///     workers: 2,
 ///     queue: 16,
+///     max_answer: None,
 /// };
 /// let rows = r#"[{"name": "user", "rows": [["u1", "Ada"], ["u2", "Bob"]]}]"#;
 /// let users = Tables::from_owned_value(alloc, hashing, Value::from_str(alloc, rows)?)?;
@@ -84,6 +85,7 @@ pub fn serve<S: Source + Sync, G: Gate + Sync, R: Threads + Wait + Sync>(
         hashing,
         source,
         gate,
+        max_answer: setup.max_answer,
     };
     serve_at::<Brand, S, G, R>(rt, &resources, &setup, opening, plans)
 }

@@ -14,4 +14,7 @@ pub struct Setup {
     pub workers: u32,
     /// How many jobs the queue between plans and workers holds: 1 to 1,024.
     pub queue: u32,
+    /// The most bytes that the texts of a plan's answers may have, together with what its terms copy on the way: see
+    /// [`Room`](dl_terms::Room). Without this there is no bound. A plan that needs more meets `OutOfMemory`.
+    pub max_answer: Option<u64>,
 }

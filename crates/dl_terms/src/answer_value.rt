@@ -1,6 +1,6 @@
 //! The values that answers give.
 
-ghost use Rattle.std.specs.Prelude.{◌≡◌, ◌++◌, false, IfOk, OnOk, length, map, option_map, slice_get, string_bytes};
+ghost use Rattle.std.specs.Prelude.{◌≡◌, ◌++◌, false, IfOk, IfSome, OnOk, length, map, option_map, slice_get, string_bytes};
 ghost use Rattle.serde_json.specs.Data.{array, object};
 ghost use Rattle.serde_json.specs.Find.{as_array, get, get_member};
 ghost use Rattle.serde_json.specs.View.{view, items_of, items_view, members_view};
@@ -174,6 +174,28 @@ impl AnswerValue {
             Shape::Row(row) => Ok(row_member(row, name)),
             Shape::List(_) => Ok(Member::Missing),
             Shape::Object { names, values } => object_member(alloc, names, values, name),
+        }
+    }
+
+    /// The tree, if the value is a row or a part of one.
+    pub(crate) fn as_row(&self) -> Option<&Value>
+        ensures { IfSome result (λ row. view row.now ≡ self.now) }
+    {
+        match &self.shape {
+            Shape::Row(row) => Some(row.value()),
+            Shape::List(_) | Shape::Object { .. } => None,
+        }
+    }
+
+    /// The value of this name, if this is an object that was made of values.
+    pub(crate) fn part(&self, name: &str) -> Option<&AnswerValue> {
+        match &self.shape {
+            Shape::Row(_) | Shape::List(_) => None,
+            Shape::Object { names, values } => {
+                let names = names.as_slice();
+                let place = names.iter().position(|held| held.as_str() == name)?;
+                values.get(place)
+            }
         }
     }
 

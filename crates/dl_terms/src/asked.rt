@@ -2,6 +2,8 @@
 
 ghost use Rattle.std.specs.Prelude.{◌≤◌, length};
 
+use crate::answer::Answer;
+use crate::room::{Room, take_text};
 use dl_values::{FetchKey, Outcome};
 use indexmap::IndexSet;
 use std::alloc::{AllocError, Global};
@@ -14,11 +16,13 @@ pub struct Asked<'l> {
     keys: IndexSet<FetchKey, RandomState>,
     // Those of the first keys.
     outcomes: Vec<&'l Outcome>,
+    // What the run may still make; without a room there is no bound.
+    room: Option<&'l Room>,
     ghost within: { length outcomes.items ≤ length keys.keys },
 }
 
 impl<'l> Asked<'l> {
-    ghost use Rattle.std.specs.Prelude.{◌≡◌, ◌≢◌, [], IfOk, IfSome, OnOk, Some, option_map};
+    ghost use Rattle.std.specs.Prelude.{◌≡◌, ◌≢◌, [], IfOk, IfSome, IsOk, None, OnOk, Some, option_map};
     ghost use Rattle.dl_values.specs.Key.{key_eq};
     ghost use Rattle.indexmap.specs.IndexSet.{insert_all};
     ghost use Rattle.dl_terms.specs.TermAnswers.{load_waits};
@@ -29,9 +33,18 @@ impl<'l> Asked<'l> {
         ensures pairs { pairs_of result ≡ [] }
         ensures wanted { wanted_of result ≡ [] }
     {
+        Asked::in_room(alloc, hashing, None)
+    }
+
+    /// No keys yet, and a room that the run takes from, if there is one.
+    pub fn in_room(alloc: Global, hashing: RandomState, room: Option<&'l Room>) -> Asked<'l>
+        ensures pairs { pairs_of result ≡ [] }
+        ensures wanted { wanted_of result ≡ [] }
+    {
         Asked {
             keys: IndexSet::with_hasher(alloc, hashing),
             outcomes: Vec::new(alloc),
+            room,
         }
     }
 
@@ -52,6 +65,27 @@ impl<'l> Asked<'l> {
     {
         self.outcomes.push(outcome)?;
         Ok(())
+    }
+
+    /// Takes the text of the answer's value from the room of the run, if the run has given its answer.
+    /// [`explore`](crate::explore) doesn't, since an answer shares its rows and is smaller than its text.
+    ///
+    /// # Errors
+    /// `AllocError` if the room has less, and never without a room.
+    pub fn spend(&self, answer: Option<&Answer>) -> Result<(), AllocError>
+        ensures { self.now.room ≡ None → IsOk result }
+    {
+        match answer {
+            Some(Answer::Value(value)) => take_text(self.room, value),
+            Some(Answer::Fault(_)) | None => Ok(()),
+        }
+    }
+
+    /// The room of the run, if there is one.
+    pub(crate) fn room(&self) -> Option<&'l Room>
+        ensures { result ≡ self.now.room }
+    {
+        self.room
     }
 
     /// Asks for a key. You get its place and, if it has one, its outcome. A key without an outcome is wanted from then
@@ -80,7 +114,11 @@ impl<'l> Asked<'l> {
 
 impl Drop for Asked<'_> {
     fn drop(self) {
-        let Asked { keys, outcomes } = self;
+        let Asked {
+            keys,
+            outcomes,
+            room: _,
+        } = self;
         drop(keys);
         drop(outcomes);
     }

@@ -16,9 +16,10 @@ ghost use Rattle.dl_terms.specs.declared.answer.Answer.TheVariants as answer;
 use crate::answer::{Answer, EvalFault};
 use crate::answer_value::AnswerValue;
 use crate::asked::Asked;
-use crate::field::{MOST_ITEMS, each, follow, pick_value};
+use crate::field::{MOST_ITEMS, each, follow, pick};
 use crate::joining::put_together;
 use crate::node::{Frame, Join, Node};
+use crate::room::{NODE_BYTES, take, take_copy, take_items};
 use crate::target::load;
 use crate::term::{Term, boxed_copy};
 use std::alloc::{AllocError, Global};
@@ -39,7 +40,7 @@ pub(crate) fn go_on(
     match answer {
         Answer::Fault(fault) => Ok(Node::Done(Answer::Fault(fault))),
         Answer::Value(value) => match frame {
-            Frame::Pick { field } => Ok(Node::Done(pick_value(alloc, &value, &field)?)),
+            Frame::Pick { field } => Ok(Node::Done(pick(alloc, &value, &field, asked)?)),
             Frame::Follow { field, table } => follow(alloc, &value, &field, &table, asked),
             Frame::Each { field, table } => each(alloc, &value, &field, &table, asked),
             Frame::Over { body } => go_over(alloc, &body, value, asked),
@@ -61,6 +62,7 @@ fn go_over(
         (waits (known_of asked.old) (over (ended (answer.Value value)) (term_view body.now)))) }
     ensures pairs { OnOk result (pairs_of asked.new ≡ pairs_of asked.old) }
 {
+    take_items(asked.room(), &value)?;
     match value.into_items(alloc)? {
         None => Ok(Node::Done(Answer::Fault(EvalFault::NotAList))),
         Some(items) => {
@@ -68,7 +70,7 @@ fn go_over(
                 return Ok(Node::Done(Answer::Fault(EvalFault::TooMany)));
             }
             let copies = enter_copies(alloc, body, items.as_slice(), asked)?;
-            put_together(alloc, copies, Join::List)
+            put_together(alloc, copies, Join::List, asked.room())
         }
     }
 }
@@ -107,6 +109,7 @@ fn enter(
         (waits_at (known_of asked.old) (Some item.now) (term_view term.now))) }
     ensures pairs { OnOk result (pairs_of asked.new ≡ pairs_of asked.old) }
 {
+    take(asked.room(), NODE_BYTES)?;
     match term {
         Term::Value(value) => {
             let value = AnswerValue::row(value.try_copy()?);
@@ -114,12 +117,13 @@ fn enter(
         }
         Term::Load(key) => load(key.try_copy()?, asked),
         Term::Item => {
+            take_copy(asked.room(), item)?;
             let value = AnswerValue::row(item.to_json(alloc)?);
             Ok(Node::Done(Answer::Value(value)))
         }
         Term::Pick { part, field } => {
             if part.is_item() {
-                return Ok(Node::Done(pick_value(alloc, item, field)?));
+                return Ok(Node::Done(pick(alloc, item, field, asked)?));
             }
             let field = field.try_copy()?;
             enter_part(alloc, part, Frame::Pick { field }, item, asked)
@@ -139,7 +143,7 @@ fn enter(
             enter_part(alloc, part, Frame::Each { field, table }, item, asked)
         }
         Term::Over { part, body } => {
-            let body = boxed_copy(alloc, body)?;
+            let body = boxed_copy(alloc, asked.room(), body)?;
             enter_part(alloc, part, Frame::Over { body }, item, asked)
         }
         Term::All(parts) => enter_parts(alloc, parts, Join::List, item, asked),
@@ -204,7 +208,7 @@ fn enter_parts(
     ensures pairs { OnOk result (pairs_of asked.new ≡ pairs_of asked.old) }
 {
     let nodes = enter_all(alloc, parts, item, asked)?;
-    put_together(alloc, nodes, by)
+    put_together(alloc, nodes, by, asked.room())
 }
 
 #[cycle(entering)]

@@ -126,7 +126,7 @@ fn explore_parts(
         return Ok(None);
     }
     let parts = mem::replace(parts, Vec::new(alloc));
-    Ok(Some(Node::Done(answer_all(alloc, parts, by)?)))
+    Ok(Some(Node::Done(answer_all(alloc, parts, by, asked.room())?)))
 }
 
 #[cycle(exploring)]

@@ -15,6 +15,7 @@ use crate::answer_value::AnswerValue;
 use crate::asked::Asked;
 use crate::joining::put_together;
 use crate::node::{Join, Node};
+use crate::room::{take_lent, take_member};
 use crate::target::{load_id, load_ids};
 use dl_values::Text;
 use serde_json::Value;
@@ -36,6 +37,19 @@ pub fn pick_value(alloc: Global, value: &AnswerValue, field: &Text) -> Result<An
     }
 }
 
+/// The field of a value, or why it has none, if there is room for its copy.
+pub(crate) fn pick(
+    alloc: Global,
+    value: &AnswerValue,
+    field: &Text,
+    asked: &Asked<'_>,
+) -> Result<Answer, AllocError>
+    ensures { IfOk result (λ a. a ≡ picked field.now (answer.Value value.now)) }
+{
+    take_member(asked.room(), value, field)?;
+    pick_value(alloc, value, field)
+}
+
 /// The load of the id in the field of a value.
 pub(crate) fn follow(
     alloc: Global,
@@ -50,6 +64,7 @@ pub(crate) fn follow(
         (target_waits (known_of asked.old) (target_in table.now (picked field.now (answer.Value value.now))))) }
     ensures pairs { OnOk result (pairs_of asked.new ≡ pairs_of asked.old) }
 {
+    take_lent(asked.room(), value, field)?;
     let member = value.get(alloc, field.as_str())?;
     match member.value() {
         None => Ok(Node::Done(Answer::Fault(EvalFault::NoField))),
@@ -71,6 +86,7 @@ pub(crate) fn each(
         (targets_waits (known_of asked.old) (targets_in table.now (picked field.now (answer.Value value.now))))) }
     ensures pairs { OnOk result (pairs_of asked.new ≡ pairs_of asked.old) }
 {
+    take_lent(asked.room(), value, field)?;
     let member = value.get(alloc, field.as_str())?;
     match member.value() {
         None => Ok(Node::Done(Answer::Fault(EvalFault::NoField))),
@@ -98,7 +114,7 @@ fn load_list(
                 return Ok(Node::Done(Answer::Fault(EvalFault::TooMany)));
             }
             let nodes = load_ids(alloc, table, ids.as_slice(), asked)?;
-            put_together(alloc, nodes, Join::List)
+            put_together(alloc, nodes, Join::List, asked.room())
         }
     }
 }

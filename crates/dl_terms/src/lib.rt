@@ -19,6 +19,7 @@ mod member;
 mod names;
 mod node;
 mod plan;
+mod room;
 mod target;
 mod term;
 
@@ -30,5 +31,6 @@ pub use field::pick_value;
 pub use names::Names;
 pub use node::{Node, unexplored};
 pub use plan::{MOST_PLANS, Plan, Step};
+pub use room::Room;
 pub use target::loaded;
 pub use term::Term;

@@ -13,6 +13,7 @@ use crate::answer::{Answer, EvalFault};
 use crate::answer_value::AnswerValue;
 use crate::asked::Asked;
 use crate::node::Node;
+use crate::room::take_nodes;
 use dl_values::{FetchKey, KeyFault, Outcome, Text};
 use serde_json::Value;
 use std::alloc::{AllocError, Global};
@@ -119,6 +120,7 @@ pub(crate) fn load_ids(
         (each_target_waits (known_of asked.old) (item_targets table.now (items_view ids.now)))) }
     ensures pairs { OnOk result (pairs_of asked.new ≡ pairs_of asked.old) }
 {
+    take_nodes(asked.room(), ids.len())?;
     let mut nodes = Vec::with_capacity(alloc, ids.len())?;
     for id in ids {
         nodes.push(load_id(alloc, table, id, asked)?)?;

@@ -5,6 +5,7 @@ ghost use Rattle.dl_terms.specs.Tree.{depth_of, depth_of_all, height_of, height_
 ghost use Rattle.dl_terms.specs.View.{term_view, terms_view};
 
 use crate::names::Names;
+use crate::room::{NODE_BYTES, Room, take};
 use dl_values::{FetchKey, Json, Text};
 use std::alloc::{AllocError, Global};
 
@@ -118,7 +119,7 @@ impl Term {
     pub fn try_copy(&self, alloc: Global) -> Result<Term, AllocError>
         ensures { IfOk result (λ t. term_view t ≡ term_view self.now) }
     {
-        copy_of(alloc, self)
+        copy_of(alloc, None, self)
     }
 }
 
@@ -147,60 +148,65 @@ fn highest(parts: &Vec<Term>) -> u32
 }
 
 #[cycle(term_copies)]
-fn copy_of(alloc: Global, term: &Term) -> Result<Term, AllocError>
+fn copy_of(alloc: Global, room: Option<&Room>, term: &Term) -> Result<Term, AllocError>
     ensures { IfOk result (λ t. term_view t ≡ term_view term.now) }
 {
+    take(room, NODE_BYTES)?;
     match term {
         Term::Value(value) => Ok(Term::Value(value.try_copy()?)),
         Term::Load(key) => Ok(Term::Load(key.try_copy()?)),
         Term::Item => Ok(Term::Item),
         Term::Pick { part, field } => {
-            let part = boxed_copy(alloc, part)?;
+            let part = boxed_copy(alloc, room, part)?;
             let field = field.try_copy()?;
             Ok(Term::Pick { part, field })
         }
         Term::Follow { part, field, table } => {
-            let part = boxed_copy(alloc, part)?;
+            let part = boxed_copy(alloc, room, part)?;
             let (field, table) = (field.try_copy()?, table.try_copy()?);
             Ok(Term::Follow { part, field, table })
         }
         Term::Each { part, field, table } => {
-            let part = boxed_copy(alloc, part)?;
+            let part = boxed_copy(alloc, room, part)?;
             let (field, table) = (field.try_copy()?, table.try_copy()?);
             Ok(Term::Each { part, field, table })
         }
-        Term::All(parts) => Ok(Term::All(copies_of(alloc, parts)?)),
+        Term::All(parts) => Ok(Term::All(copies_of(alloc, room, parts)?)),
         Term::Over { part, body } => {
-            let part = boxed_copy(alloc, part)?;
-            let body = boxed_copy(alloc, body)?;
+            let part = boxed_copy(alloc, room, part)?;
+            let body = boxed_copy(alloc, room, body)?;
             Ok(Term::Over { part, body })
         }
         Term::Object { names, parts } => {
             let names = names.try_copy()?;
-            let parts = copies_of(alloc, parts)?;
+            let parts = copies_of(alloc, room, parts)?;
             Ok(Term::Object { names, parts })
         }
     }
 }
 
-/// The same term, with memory of its own.
+/// The same term, with memory of its own, if there is room for it.
 ///
 /// # Errors
 /// `AllocError` if memory runs out.
 #[cycle(term_copies)]
-pub(crate) fn boxed_copy(alloc: Global, term: &Term) -> Result<Box<Term>, AllocError>
+pub(crate) fn boxed_copy(
+    alloc: Global,
+    room: Option<&Room>,
+    term: &Term,
+) -> Result<Box<Term>, AllocError>
     ensures { IfOk result (λ t. term_view t.value ≡ term_view term.now) }
 {
-    Ok(Box::new(alloc, copy_of(alloc, term)?)?)
+    Ok(Box::new(alloc, copy_of(alloc, room, term)?)?)
 }
 
 #[cycle(term_copies)]
-fn copies_of(alloc: Global, terms: &Vec<Term>) -> Result<Vec<Term>, AllocError>
+fn copies_of(alloc: Global, room: Option<&Room>, terms: &Vec<Term>) -> Result<Vec<Term>, AllocError>
     ensures { IfOk result (λ ts. terms_view ts.items ≡ terms_view terms.now.items) }
 {
     let mut copies = Vec::with_capacity(alloc, terms.len())?;
     for term in terms {
-        copies.push(copy_of(alloc, term)?)?;
+        copies.push(copy_of(alloc, room, term)?)?;
     }
     Ok(copies)
 }

@@ -23,6 +23,7 @@ fn main(rt: HostRuntime) -> anyhow::Result<()> {
         tables: None,
         workers: 1,
         queue: 16,
+        max_answer: None,
     };
     fill(&rt)?;
     let users = Checked(Users::at(&rt, PATH));

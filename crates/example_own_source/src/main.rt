@@ -82,6 +82,7 @@ fn main(rt: HostRuntime) -> anyhow::Result<()> {
         tables: None,
         workers: 2,
         queue: 16,
+        max_answer: None,
     };
     let report = serve(&rt, alloc, hashing, &Domains, setup, plans, &NoGate)?;
     print_answers(&rt, &report)

@@ -16,6 +16,7 @@ fn main(rt: HostRuntime) -> anyhow::Result<()> {
         tables: None,
         workers: 2,
         queue: 16,
+        max_answer: None,
     };
     let rows = r#"[{"name": "user", "rows": [["u1", "Ada"], ["u2", "Bob"]]}]"#;
     let users = Tables::from_owned_value(alloc, hashing, Value::from_str(alloc, rows)?)?;

@@ -68,6 +68,7 @@ fn answered<R: AllocGlobal + Threads + Wait + Sync>(
             tables: table_limits,
             workers: command.threads,
             queue: command.queue,
+            max_answer: None,
         };
         served::served(rt, rt.alloc(), hashing, &source, setup, plans)?
     };

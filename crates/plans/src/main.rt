@@ -14,8 +14,8 @@ use std::thread::Threads;
 fn main(rt: HostRuntime) -> ExitCode {
     let status = match asked(&rt) {
         Ok((options, hashing)) => {
-            let explain = options.explain;
-            told(&rt, &written(&rt, hashing, options), explain)
+            let (explain, max_answer) = (options.explain, options.max_answer);
+            told(&rt, &written(&rt, hashing, options), explain, max_answer)
         }
         Err(status) => status,
     };

@@ -78,6 +78,7 @@ fn serve_row<S: Source + Sync, G: Gate + Sync, R: Abort + Eprint + Threads + Wai
         tables: None,
         workers,
         queue: row.queue,
+        max_answer: None,
     };
     let plans = stage.plans(row.plans);
     if is_refused {

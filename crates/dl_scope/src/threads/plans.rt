@@ -31,6 +31,7 @@ fn run_plan<L: LoaderName, S, G, R: Wait>(
     let steps = plan.into_steps();
     let (alloc, hashing) = (server.resources.alloc, server.resources.hashing);
     let (loader, queue) = (server.loader, server.queue);
+    let max_answer = server.resources.max_answer;
     let given = take_steps(
         rt,
         alloc,
@@ -40,6 +41,7 @@ fn run_plan<L: LoaderName, S, G, R: Wait>(
         queue,
         &mut sender,
         steps,
+        max_answer,
     );
     if given.is_err() {
         loader.stop(rt);

@@ -15,6 +15,8 @@ pub(crate) struct Resources<'a, S, G> {
     pub(crate) source: &'a S,
     /// Hears of each step of a worker.
     pub(crate) gate: &'a G,
+    /// The most bytes that a plan's answers may take, if there is a bound.
+    pub(crate) max_answer: Option<u64>,
 }
 
 /// What the threads of a server share.

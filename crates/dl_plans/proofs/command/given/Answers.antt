@@ -12,6 +12,7 @@ returns c =
           (λ t e. let k = c.in-Some.ensures.value t e in record { numeral = search rules; value = search rules });
       least = search rules;
       most = search rules;
+      max_answer = c.in-Some-most_bytes.ensures;
       batches = λ e. c.get_flag.ensures.value (one_text-rows found (codes "batches") ∙ e);
       no_batches = λ e. c.get_flag.ensures.other (one_text-rows found (codes "batches") ∙ e);
       explain = λ e. c.get_flag-2.ensures.value (one_text-rows found (codes "explain") ∙ e);

@@ -43,10 +43,10 @@ returns-clause-stand c =
     (take_all c.loop-id.id-index ids c.loop-id-test.false) c.loop-id.invariant.stand)
 
 pub returns-in_err-nodes-clause-stand : goal.returns-in_err-nodes-clause-stand
-returns-in_err-nodes-clause-stand c = IfOk-from_err _ _ c.from_residual.ensures.0
+returns-in_err-nodes-clause-stand c = IfOk-from_err _ _ c.from_residual-in_err-nodes.ensures.0
 
 pub returns-in_err-nodes-clause-wanted : goal.returns-in_err-nodes-clause-wanted
-returns-in_err-nodes-clause-wanted c = IfOk-from_err _ _ c.from_residual.ensures.0
+returns-in_err-nodes-clause-wanted c = IfOk-from_err _ _ c.from_residual-in_err-nodes.ensures.0
 
 pub returns-in_err-load_id-clause-stand : goal.returns-in_err-load_id-clause-stand
 returns-in_err-load_id-clause-stand c = IfOk-from_err _ _ c.from_residual-in_err-load_id.ensures.0

@@ -25,8 +25,8 @@ invariant_of-self-2 g c =
     with_items_is (with_items v c.all_shown.new.tickets) c.learn.new.tickets second ∙ (same ∙ shown_items) in
     let now = (with_items (with_items v c.all_shown.new.tickets) c.learn.new.tickets).items in
     let shown : all_show now ≡ true = ap all_show items ∙ (sym c.all_shown.ensures.all ∙ search rules) in
-    let stage : c.match-answer.self ≡ stage_after c.take_answer-answer.result =
-    elim c.match-answer.branch [ in-Some w ↦ w.self-is ∙ ap stage_after (sym w.in-Some.is) | in-None w ↦ w.self-is ∙ ap stage_after (sym w.in-None.is) ] in
+    let stage : c.match-answer-3.self ≡ stage_after c.take_answer-answer.result =
+    elim c.match-answer-3.branch [ in-Some w ↦ w.self-is ∙ ap stage_after (sym w.in-Some.is) | in-None w ↦ w.self-is ∙ ap stage_after (sym w.in-None.is) ] in
     let p = pairs_of c.args.self.now.asked in
     let q = pairs_of c.explore.new.asked in
     let u = node_view c.args.self.now.root in
@@ -43,9 +43,9 @@ invariant_of-self-2 g c =
     ∙ ap (λ ps. insert_all key_eq [] (waits (outcome_in ps) u)) (sym kept_pairs)) in
     let kept : c.take_answer-answer.result ≡ None → after ≡ left = λ none. ap node_view (c.take_answer-answer.ensures.kept none) in
     record {
-      supplied = λ learning. absurd (not_learning c.take_answer-answer.result c.match-answer.self stage learning);
+      supplied = λ learning. absurd (not_learning c.take_answer-answer.result c.match-answer-3.self stage learning);
       waiting = then_waiting p q u left keys next c.args.self.now.tickets.items now shown learned reduces added c.take_answer-answer.result
-          c.match-answer.self after c.take_answer-answer.ensures.answer kept stage;
+          c.match-answer-3.self after c.take_answer-answer.ensures.answer kept stage;
     }
 
 pub returns-clause-answer : goal.returns-clause-answer
@@ -60,8 +60,8 @@ returns-clause-answer g c =
     with_items_is (with_items v c.all_shown.new.tickets) c.learn.new.tickets second ∙ (same ∙ shown_items) in
     let now = (with_items (with_items v c.all_shown.new.tickets) c.learn.new.tickets).items in
     let shown : all_show now ≡ true = ap all_show items ∙ (sym c.all_shown.ensures.all ∙ search rules) in
-    let stage : c.match-answer.self ≡ stage_after c.take_answer-answer.result =
-    elim c.match-answer.branch [ in-Some w ↦ w.self-is ∙ ap stage_after (sym w.in-Some.is) | in-None w ↦ w.self-is ∙ ap stage_after (sym w.in-None.is) ] in
+    let stage : c.match-answer-3.self ≡ stage_after c.take_answer-answer.result =
+    elim c.match-answer-3.branch [ in-Some w ↦ w.self-is ∙ ap stage_after (sym w.in-Some.is) | in-None w ↦ w.self-is ∙ ap stage_after (sym w.in-None.is) ] in
     let p = pairs_of c.args.self.now.asked in
     let q = pairs_of c.explore.new.asked in
     let u = node_view c.args.self.now.root in
@@ -78,7 +78,7 @@ returns-clause-answer g c =
     ∙ ap (λ ps. insert_all key_eq [] (waits (outcome_in ps) u)) (sym kept_pairs)) in
     let kept : c.take_answer-answer.result ≡ None → after ≡ left = λ none. ap node_view (c.take_answer-answer.ensures.kept none) in
     then_answers p q u left keys next c.args.self.now.tickets.items now shown learned reduces c.args.self.now.stage c.requires.learning
-    c.take_answer-answer.result c.match-answer.self after c.take_answer-answer.ensures.answer
+    c.take_answer-answer.result c.match-answer-3.self after c.take_answer-answer.ensures.answer
 
 pub returns-clause-waits : goal.returns-clause-waits
 returns-clause-waits g c =
@@ -92,8 +92,8 @@ returns-clause-waits g c =
     with_items_is (with_items v c.all_shown.new.tickets) c.learn.new.tickets second ∙ (same ∙ shown_items) in
     let now = (with_items (with_items v c.all_shown.new.tickets) c.learn.new.tickets).items in
     let shown : all_show now ≡ true = ap all_show items ∙ (sym c.all_shown.ensures.all ∙ search rules) in
-    let stage : c.match-answer.self ≡ stage_after c.take_answer-answer.result =
-    elim c.match-answer.branch [ in-Some w ↦ w.self-is ∙ ap stage_after (sym w.in-Some.is) | in-None w ↦ w.self-is ∙ ap stage_after (sym w.in-None.is) ] in
+    let stage : c.match-answer-3.self ≡ stage_after c.take_answer-answer.result =
+    elim c.match-answer-3.branch [ in-Some w ↦ w.self-is ∙ ap stage_after (sym w.in-Some.is) | in-None w ↦ w.self-is ∙ ap stage_after (sym w.in-None.is) ] in
     let p = pairs_of c.args.self.now.asked in
     let q = pairs_of c.explore.new.asked in
     let u = node_view c.args.self.now.root in
@@ -110,4 +110,4 @@ returns-clause-waits g c =
     ∙ ap (λ ps. insert_all key_eq [] (waits (outcome_in ps) u)) (sym kept_pairs)) in
     let kept : c.take_answer-answer.result ≡ None → after ≡ left = λ none. ap node_view (c.take_answer-answer.ensures.kept none) in
     then_pends p q u left keys next c.args.self.now.tickets.items now shown learned reduces added c.args.self.now.stage c.requires.learning
-    c.take_answer-answer.result c.match-answer.self after c.take_answer-answer.ensures.answer kept stage
+    c.take_answer-answer.result c.match-answer-3.self after c.take_answer-answer.ensures.answer kept stage
