@@ -3,6 +3,7 @@
 
     bench/document.py script | hostile-script | harmless-script N
     bench/document.py ordinary | plans | nested | steps | rows | each | long-keys K [--unserved]
+    bench/document.py answers | picks | bodies K
 
 A plan file that is printed with --unserved has room for one call. So it is read whole, and served hardly at all. Its kinds:
 
@@ -13,6 +14,12 @@ A plan file that is printed with --unserved has room for one call. So it is read
     rows        short rows, but for a thousand bytes of steps that load them
     each        a quarter short rows, and steps of an `each` over 1,024 ids that are in it
     long-keys   half rows of ids of 256 bytes, half steps that load them
+
+The others ask for much more than they have bytes:
+
+    answers     one row, and an `each` over 1,024 times its id
+    picks       one row with one member, and 4,096 steps in 16 plans that pick it
+    bodies      of version 3, three `over` of 1,024 items inside one another, which give the value
 """
 
 import sys
@@ -101,10 +108,29 @@ def plan_file(kind, size, front):
     return "".join(parts)
 
 
+def costly(kind, size):
+    """A plan file of about that size that asks for much more."""
+    text = f'"{"x" * size}"'
+    if kind == "answers":
+        ids = ",".join(['"1"'] * ITEMS)
+        table, plans = f'["1",{text}]', f'[{{"eval":{{"each":[{{"value":{{"f":[{ids}]}}}},"f","user"]}}}}]'
+    elif kind == "picks":
+        step = '{"eval":{"pick":[{"load":["user","1"]},"f"]}}'
+        table, plans = f'["1",{{"f":{text}}}]', ",".join([f"[{','.join([step] * STEPS)}]"] * PLANS["plans"])
+    else:
+        items = ",".join("0" * ITEMS)
+        over = f'{{"over":[{{"value":[{items}]}},'
+        table, plans = "", f'[{{"eval":{over * 3}{{"value":{text}}}{"]}" * 3}}}]'
+    version = 3 if kind == "bodies" else 1
+    return f'{{"version":{version},"tables":[{{"name":"user","rows":[{table}]}}],"plans":[{plans}]}}'
+
+
 def main(kind, count, *words):
     if kind in PLANS:
         front = '{"version":1,"maxCalls":1,' if words == ("--unserved",) else '{"version":1,'
         print(plan_file(kind, int(count) * 1_000, front), end="")
+    elif kind in ("answers", "picks", "bodies"):
+        print(costly(kind, int(count) * 1_000), end="")
     elif kind == "script" or kind in FRONTS:
         print(script(kind, int(count)), end="")
     else:
