@@ -1,7 +1,7 @@
 mod AskedKeys
 mod BatchTexts
 pub mod Bytes
-mod CommandMatches
+pub mod CommandMatches
 mod JoinedTables
 mod MigratedAnswers
 pub mod Runs

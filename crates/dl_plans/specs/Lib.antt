@@ -10,3 +10,4 @@ pub mod Migration
 pub mod MigratedAnswers
 pub mod Status
 pub mod History
+pub mod Request

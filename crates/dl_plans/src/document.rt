@@ -171,7 +171,7 @@ fn output<T: Threads + Wait + Sync>(
 ///
 /// # Errors
 /// Those of [`read_input`], or with a database those of [`read_over_database`].
-fn read(
+pub(crate) fn read(
     alloc: Global,
     hashing: RandomState,
     bytes: &[u8],
@@ -217,7 +217,9 @@ fn answered<T: Threads + Wait + Sync>(
         }
         Input::Plans(file) => {
             let terms = kept_terms(alloc, file.plans.as_slice(), options);
-            match served(rt, alloc, hashing, file, names, options) {
+            let (left, tables) = served(rt, alloc, hashing, file, names, options);
+            forget(tables);
+            match left {
                 Ok(report) => {
                     let given = output_of_report(alloc, hashing, &report, &terms, names, options);
                     forget(report);
@@ -313,21 +315,21 @@ fn output_of_report(
 }
 
 /// Serves the plans of a file over its tables and those of the options' database, within the limits of the file, with as
-/// many workers as the options say and a queue of [`QUEUE_PLACES`]. It doesn't drop the tables.
+/// many workers as the options say and a queue of [`QUEUE_PLACES`]. The tables of the file come back.
 ///
 /// # Errors
 /// Those of [`serve`].
-fn served<T: Threads + Wait + Sync>(
+pub(crate) fn served<T: Threads + Wait + Sync>(
     rt: &T,
     alloc: Global,
     hashing: RandomState,
     file: PlanFile,
     names: &Names,
     options: &Options,
-) -> Result<Report, ScopeFault>
+) -> (Result<Report, ScopeFault>, Tables)
     requires { IfSome options.now.database (λ _. AreNames names.now file.tables) }
-    ensures headline { IfOk result (Headline (file_service options.now file) file.plans.items) }
-    ensures refused { IfErr result (RefusedAs (file_service options.now file) (setup_of options.now file) file.plans.items) }
+    ensures headline { IfOk result.0 (Headline (file_service options.now file) file.plans.items) }
+    ensures refused { IfErr result.0 (RefusedAs (file_service options.now file) (setup_of options.now file) file.plans.items) }
 {
     let PlanFile {
         tables,
@@ -344,6 +346,5 @@ fn served<T: Threads + Wait + Sync>(
     };
     let source = JoinedTables::new(&tables, names, &options.database);
     let left = serve(rt, alloc, hashing, &source, setup, plans, &NoGate);
-    forget(tables);
-    left
+    (left, tables)
 }

@@ -48,13 +48,20 @@ fn database<R: Eprint + AllocGlobal + Files>(
     ensures { IfOk result (λ tables. IfSome tables IsReadFromSome) }
 {
     match file {
-        Some(file) if options.migrate.is_none() => Ok(Some(tables(rt, hashing, file.as_str())?)),
+        Some(file) if options.migrate.is_none() => Ok(Some(database_tables(
+            rt,
+            hashing,
+            file.as_str(),
+        )?)),
         _ => Ok(None),
     }
 }
 
-/// Random numbers. Fails as [`asked`] does.
-fn hashing<R: RandomSource + Eprint>(rt: &R) -> Result<RandomState, u8> {
+/// Random numbers of this run to hash keys by.
+///
+/// # Errors
+/// As [`asked`].
+pub fn hashing<R: RandomSource + Eprint>(rt: &R) -> Result<RandomState, u8> {
     match RandomState::new(rt) {
         Ok(hashing) => Ok(hashing),
         Err(_) => {
@@ -64,8 +71,11 @@ fn hashing<R: RandomSource + Eprint>(rt: &R) -> Result<RandomState, u8> {
     }
 }
 
-/// The tables of the database in this file. Fails as [`asked`] does.
-fn tables<R: Eprint + AllocGlobal + Files>(
+/// The tables of the database in this file.
+///
+/// # Errors
+/// As [`asked`].
+pub fn database_tables<R: Eprint + AllocGlobal + Files>(
     rt: &R,
     hashing: RandomState,
     file: &str,
@@ -113,7 +123,10 @@ fn given<R: Env + Print + Eprint + AllocGlobal>(rt: &R) -> Result<(Options, Opti
 }
 
 /// The words behind the program's name.
-fn words<R: Env + AllocGlobal>(rt: &R) -> io::Result<Vec<String>> {
+///
+/// # Errors
+/// If memory runs out, or a word isn't UTF-8.
+pub fn words<R: Env + AllocGlobal>(rt: &R) -> io::Result<Vec<String>> {
     let words = env::args(rt)?.skip(1).collect(rt.alloc())?;
     Ok(words)
 }
@@ -141,7 +154,7 @@ fn given_by<R: Print + Eprint + AllocGlobal>(
 }
 
 /// Says why the words give no options: memory ran out, or clap refuses them, or they ask for help, which it prints.
-fn tell_no_options<R: Print + Eprint>(rt: &R, error: &clap::Error) {
+pub fn tell_no_options<R: Print + Eprint>(rt: &R, error: &clap::Error) {
     let _ = match error.kind() {
         ErrorKind::OutOfMemory => eprintln!(rt; "{}", RunError::OutOfMemory),
         _ => error.print(rt),
