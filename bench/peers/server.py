@@ -65,6 +65,7 @@ class Request:
 
 class Handler(http.server.BaseHTTPRequestHandler):
     protocol_version = "HTTP/1.1"
+    disable_nagle_algorithm = True
     tables: dict[str, dict[str, object]] = {}
 
     def do_POST(self):
