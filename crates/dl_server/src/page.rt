@@ -23,20 +23,18 @@ img { max-width: 100% }
 "use strict";
 const part = id => document.getElementById(id);
 const send = place => fetch(place, {method: "POST", headers: {"content-type": "application/json"}, body: part("plan").value});
-const told = text => { try { return JSON.stringify(JSON.parse(text), null, 1) } catch { return text } };
 const show = async (place, take) => {
   part("answers").textContent = "";
+  URL.revokeObjectURL(part("picture").src);
+  part("picture").removeAttribute("src");
   try {
     const reply = await send(place);
     if (reply.ok) await take(reply);
-    else part("answers").textContent = reply.status + " " + told(await reply.text());
+    else part("answers").textContent = reply.status + " " + reply.statusText + "\n" + await reply.text();
   } catch (error) { part("answers").textContent = String(error) }
 };
-part("answer").onclick = () => show("/", async reply => { part("answers").textContent = told(await reply.text()) });
-part("draw").onclick = () => show("/picture", async reply => {
-  URL.revokeObjectURL(part("picture").src);
-  part("picture").src = URL.createObjectURL(await reply.blob());
-});
+part("answer").onclick = () => show("/", async reply => { part("answers").textContent = await reply.text() });
+part("draw").onclick = () => show("/picture", async reply => { part("picture").src = URL.createObjectURL(await reply.blob()) });
 </script>
 </html>
 "#;
