@@ -26,7 +26,7 @@ pub struct Requests<'r, T> {
     pub alloc: Global,
     /// Hashes keys, and nothing that you see depends on it.
     pub hashing: RandomState,
-    /// Of these count the tables of the database, and the number of workers.
+    /// Of these count the tables of the database, the number of workers, and what a plan's answers may take.
     pub options: &'r Options,
 }
 

@@ -60,8 +60,9 @@ impl<'r, T: Threads + Wait> Service for Answering<'r, T> {
 }
 
 /// Answers the requests of one connection, in their order, until its client closes it or asks for that, or a request can't
-/// be read. The tables of a plan file answer it, and behind them those of the options' database. Of the options only these
-/// and the number of workers count. `hashing` hashes keys and names of headers, and nothing that you see depends on it.
+/// be read. The tables of a plan file answer it, and behind them those of the options' database. Of the options these count,
+/// the number of workers and what a plan's answers may take. `hashing` hashes keys and names of headers, and nothing that
+/// you see depends on it.
 ///
 /// # Errors
 /// That of the reader or of the writer, or `OutOfMemory`: then what was read may have a request without a response, and the
