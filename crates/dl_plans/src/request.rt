@@ -44,8 +44,8 @@ impl From<AllocError> for RequestFault {
 }
 
 /// Serves the plans of a plan file in these bytes, as [`run`](crate::run) does: over its tables and those of the options'
-/// database, with as many workers as the options say. Of the options nothing else counts. `hashing` hashes keys, and
-/// nothing that you see depends on it.
+/// database, with as many workers as the options say, and within their `max_answer`. Of the options nothing else counts.
+/// `hashing` hashes keys, and nothing that you see depends on it.
 ///
 /// # Errors
 /// `Refused` if the bytes are no document, `Script` if they are a call script, `Run` if [`serve`](dl_scope::serve) refuses
