@@ -21,7 +21,7 @@ static answer load_many(dl_desk *desk, const char *ids)
     dl_key_lengths lengths[MOST] = {{0, 0}};
     dl_loaded answers[MOST] = {{0, 0, 0}};
     answer given = {0, 0, 0, 0};
-    size_t count = user_keys(ids, texts, lengths);
+    size_t count = keys_of(ids, texts, lengths);
 
     given.code = dl_desk_load_many(desk, texts, 5 * count, lengths, count, answers, count);
     for (size_t i = 0; i < count; i++) {
@@ -56,6 +56,7 @@ static answer open_by_table(dl_desk *desk)
 static answer make(dl_desk *desk, const call *call)
 {
     const uint8_t *user = (const uint8_t *)"user", *id = (const uint8_t *)call->ids;
+    size_t length = strlen(call->ids);
     dl_dispatched sent;
 
     switch (call->name) {
@@ -64,15 +65,15 @@ static answer make(dl_desk *desk, const call *call)
     case OPEN_BY_TABLE:
         return open_by_table(desk);
     case LOAD:
-        return loaded(dl_desk_load(desk, user, 4, id, 1));
+        return loaded(dl_desk_load(desk, user, 4, id, length));
     case LOAD_MANY:
         return load_many(desk, call->ids);
     case PRIME:
-        return loaded(dl_desk_prime(desk, user, 4, id, 1));
+        return loaded(dl_desk_prime(desk, user, 4, id, length));
     case HELD:
-        return loaded(dl_desk_held(desk, user, 4, id, 1));
+        return loaded(dl_desk_held(desk, user, 4, id, length));
     case CLEAR:
-        return (answer){dl_desk_clear(desk, user, 4, id, 1), 0, 0, 0};
+        return (answer){dl_desk_clear(desk, user, 4, id, length), 0, 0, 0};
     case CLEAR_ALL:
         return (answer){dl_desk_clear_all(desk), 0, 0, 0};
     case DISPATCH:
@@ -91,6 +92,9 @@ static answer make(dl_desk *desk, const call *call)
     }
     return (answer){0, 0, 0, 0};
 }
+
+/* An id that is too long for a key's own block of memory. */
+#define LONG "abcdefghijklmnopqrstuvwxyzabcdefghijklmnopqrstuvwxyz"
 
 static const call CALLS[] = {
     {OPEN, "", 0, {DL_DONE, 0, 0, 0}, true},
@@ -123,11 +127,14 @@ static const call CALLS[] = {
     {LOAD_MANY, "abcdefghijklmnop", 0, {DL_DONE, (9 + 24) * 8, 4 * 16 + 2 * (0 + 1 + 2 + 3 + 4 + 5 + 6 + 7), 16}, true},
     {DISPATCH, "", 0, {DL_DONE, 3, 9, 0}, true},
     {CLOSE, "", 0, {DL_DONE, 0, 0, 0}, false},
-    /* A batch of this desk has one key of the table. */
+    /* A batch of this desk has one key of the table `user`, or two of the table `item`. */
     {OPEN_BY_TABLE, "", 0, {DL_DONE, 0, 0, 0}, true},
     {LOAD, "a", 0, {DL_FRESH, 0, 0, 0}, true},
-    {LOAD_MANY, "bac", 0, {DL_DONE, 1 + 0 + 2, 1 + 2, 2}, true},
-    {DISPATCH, "", 0, {DL_DONE, 0, 3, 0}, true},
+    /* b, A, a hit, B, c and C: cells 1, 2, 0, 3, 4, 5 and batches 1, 2, none, 2, 3, 4. */
+    {LOAD_MANY, "bAaBcC", 0, {DL_DONE, 15, 12, 5}, true},
+    {LOAD, LONG, 0, {DL_FRESH, 6, 5, 0}, true},
+    {HELD, LONG, 0, {DL_HIT, 6, 0, 0}, true},
+    {DISPATCH, "", 0, {DL_DONE, 0, 6, 0}, true},
     {CLOSE, "", 0, {DL_DONE, 0, 0, 0}, false},
 };
 

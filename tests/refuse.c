@@ -8,7 +8,7 @@
  * as s draws it.
  *
  * A test asks from inside, by growths of sizes that nothing else has (crates/dl_tests): GROWTHS + n bytes refuse the n-th growth from
- * then on, THREADS + n the n-th thread, and ENDS bytes end that, and are refused themselves if one was.
+ * then on, and ENDS bytes end that, and are refused themselves if one was.
  *
  * REFUSE_TOLD is the number of an open file, whose first eight bytes become how many were refused. */
 #define _GNU_SOURCE
@@ -34,7 +34,7 @@ extern void *__libc_malloc(size_t), *__libc_realloc(void *, size_t), *__libc_cal
 typedef enum { GROWTH, THREAD, RANDOM, OPEN, READ, DISK, WRITE, KINDS } kind;
 
 /* The sizes by which a test asks. */
-enum { GROWTHS = 5000011, THREADS = 5200011, ENDS = 5400013, MOST = 10000 };
+enum { GROWTHS = 5000011, ENDS = 5400013, MOST = 10000 };
 
 /* Of each kind: how many were asked for, which are refused, from the first to the last (0: none), and by which error. */
 static struct {
@@ -113,18 +113,18 @@ static bool is_refused(kind kind)
     return true;
 }
 
-/* Has the n-th of a kind refused from now on, and no other. */
-static void refuse_from_now(kind kind, long n)
+/* Has the n-th growth refused from now on, and no other. */
+static void refuse_from_now(long n)
 {
     asked_count = 0;
-    rules[kind].asked = 0;
-    rules[kind].first = rules[kind].last = n;
+    rules[GROWTH].asked = 0;
+    rules[GROWTH].first = rules[GROWTH].last = n;
 }
 
 void refuse_growth(long n)
 {
     *refused_count = 0;
-    refuse_from_now(GROWTH, n);
+    refuse_from_now(n);
 }
 
 long growths_refused(void)
@@ -157,11 +157,9 @@ static bool is_word(size_t size, bool *fails)
 {
     *fails = false;
     if (size > GROWTHS && size <= GROWTHS + MOST) {
-        refuse_from_now(GROWTH, (long)(size - GROWTHS));
-    } else if (size > THREADS && size <= THREADS + MOST) {
-        refuse_from_now(THREAD, (long)(size - THREADS));
+        refuse_from_now((long)(size - GROWTHS));
     } else if (size == ENDS) {
-        rules[GROWTH].first = rules[THREAD].first = 0;
+        rules[GROWTH].first = 0;
         *fails = atomic_exchange(&asked_count, 0) > 0;
     } else {
         return false;

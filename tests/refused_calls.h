@@ -15,7 +15,7 @@ typedef struct {
     uint32_t code, first, second, third;
 } answer;
 
-/* A call with the letters of its keys or a number, its own answer, and whether it may take memory. */
+/* A call with its id, the letters of its keys or a number, its own answer, and whether it may take memory. */
 typedef struct {
     unsigned name;
     const char *ids;
@@ -46,13 +46,14 @@ static bool is(answer given, answer own)
 /* The most keys of a call. */
 enum { MOST = 16 };
 
-/* The texts of keys of the table `user`, whose ids are these letters, and how long they are. How many keys. */
-static size_t user_keys(const char *ids, uint8_t texts[5 * MOST], dl_key_lengths lengths[MOST])
+/* The texts of keys whose ids are these letters, and how long they are: of the table `user`, and of `item` if the letter is a capital.
+ * How many keys. */
+static size_t keys_of(const char *ids, uint8_t texts[5 * MOST], dl_key_lengths lengths[MOST])
 {
     size_t count = strlen(ids);
 
     for (size_t i = 0; i < count; i++) {
-        memcpy(texts + 5 * i, "user", 4);
+        memcpy(texts + 5 * i, ids[i] < 'a' ? "item" : "user", 4);
         texts[5 * i + 4] = (uint8_t)ids[i];
         lengths[i] = (dl_key_lengths){4, 1};
     }

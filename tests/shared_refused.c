@@ -25,7 +25,7 @@ static answer load_many(dl_loader *loader, uint32_t caller, const char *ids)
     dl_key_lengths lengths[MOST] = {{0, 0}};
     dl_ticket answers[MOST] = {{0, 0, 0, 0}};
     answer given = {0, 0, 0, 0};
-    size_t count = user_keys(ids, texts, lengths);
+    size_t count = keys_of(ids, texts, lengths);
 
     given.code = dl_loader_load_many(loader, caller, texts, 5 * count, lengths, count, answers, count);
     for (size_t i = 0; i < count; i++) {
@@ -156,12 +156,13 @@ static const call CALLS[] = {
      * 18 + 7, and the cells to 0 + 1 + 0 + 19 + 2 + 0 + 7 + 16. */
     {EVENT, "", 0, {0, 17, 53, 45}, false},
     {FREE, "", 0, {0, 0, 0, 0}, false},
-    /* A batch of this loader has one key of the table. */
+    /* A batch of this loader has one key of the table `user`, or two of the table `item`. */
     {OPEN_BY_TABLE, "", 0, {DL_DONE, 0, 0, 0}, true},
     {OPENED, "", 0, {1, 2, 12, 6}, false},
     {LOAD, "a", 0, {DL_FRESH, 0, 0, 0}, true},
-    {LOAD_MANY, "bac", 0, {DL_DONE, 1 + 0 + 2, 1 + 2, 2}, true},
-    {DISPATCH, "", 0, {DL_DONE, 0, 3, 0}, true},
+    /* b, A, a hit, B, c and C: cells 1, 2, 0, 3, 4, 5 and batches 1, 2, none, 2, 3, 4. */
+    {LOAD_MANY, "bAaBcC", 0, {DL_DONE, 15, 12, 5}, true},
+    {DISPATCH, "", 0, {DL_DONE, 0, 5, 0}, true},
     {FREE, "", 0, {0, 0, 0, 0}, false},
 };
 

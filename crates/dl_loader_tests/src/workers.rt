@@ -1,7 +1,6 @@
 //! The job queue of `dl_queue` and the fetch workers of `dl_workers`: worked rows of calls on one thread, exchanges of
-//! jobs between many threads, and a worker that ends the jobs of a caller, with refused growths too.
+//! jobs between many threads, and a worker that ends the jobs of a caller.
 
 mod exchanges;
 mod queue;
-mod refused;
 mod work;

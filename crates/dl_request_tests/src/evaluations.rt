@@ -5,9 +5,9 @@ use crate::batches::{Batch, assert_batches};
 use crate::player::{By, Turn, play_over};
 use crate::stage::{Setting, Stage};
 use dl_source::Source;
-use dl_tests::{ADA, BOB, CountedTables, FRIENDS, U1, U2, assert_is, list_text};
+use dl_tests::{ADA, BOB, CountedTables, FRIENDS, U1, U2, assert_is};
 use dl_workers::WorkerEnd;
-use std::alloc::{AllocGlobal, Global};
+use std::alloc::AllocGlobal;
 use std::io::Eprint;
 use std::process::Abort;
 use std::random::RandomSource;
@@ -16,14 +16,14 @@ use std::thread::Threads;
 
 /// A term, the limits of its loader's batches and cells, and what it gives.
 #[derive(Clone, Copy)]
-struct Row<'a> {
+struct Row {
     about: &'static str,
     /// Who ends its batches, one after another, each on a loader of its own.
     by: &'static [By],
-    term: &'a str,
+    term: &'static str,
     max_cells: u32,
     /// The text of its answer.
-    answer: &'a str,
+    answer: &'static str,
     /// The number of rounds of loads that it takes.
     rounds: u32,
     /// Its batches.
@@ -31,7 +31,7 @@ struct Row<'a> {
 }
 
 /// A row of a term that needs no load. The others differ from it.
-const ROW: Row<'static> = Row {
+const ROW: Row = Row {
     about: "a value",
     by: &[By::Itself, By::Worker],
     term: r#"{"value":7}"#,
@@ -44,7 +44,7 @@ const ROW: Row<'static> = Row {
 /// The rows of the users `u2` and `u3`.
 pub(crate) const TWO_FRIENDS: &str = r#"[{"best":"u1","friends":[],"name":"Bob"},{"name":"Cy"}]"#;
 
-static ROWS: [Row<'static>; 5] = [
+static ROWS: [Row; 6] = [
     ROW,
     Row {
         about: "a load",
@@ -79,25 +79,6 @@ static ROWS: [Row<'static>; 5] = [
         batches: &[("u1 u2", true)],
         ..ROW
     },
-];
-
-static FAULTS: [Row<'static>; 3] = [
-    Row {
-        about: "a field of no object beside a load",
-        term: r#"{"all":[{"pick":[{"value":1},"x"]},{"load":["user","u1"]}]}"#,
-        answer: "no field",
-        rounds: 1,
-        batches: &[("u1", true)],
-        ..ROW
-    },
-    Row {
-        about: "items that are no keys",
-        term: r#"{"each":[{"value":{"f":["",1,"u2"]}},"f","user"]}"#,
-        answer: "not a key",
-        rounds: 1,
-        batches: &[("u2", true)],
-        ..ROW
-    },
     Row {
         about: "two cells where there is one",
         term: r#"{"all":[{"load":["user","u1"]},{"load":["user","u2"]}]}"#,
@@ -114,58 +95,24 @@ const TIMES: u32 = 20;
 fn terms_and_their_batches(rt: HostRuntime) {
     let setting = Setting::new(&rt, rt.alloc());
     let stage = setting.stage(&rt);
-    for row in ROWS.iter().chain(FAULTS.iter()) {
+    for row in &ROWS {
         for _ in 0..TIMES {
             try_row(&stage, &setting.users, row);
         }
     }
 }
 
-#[test]
-fn as_many_items_as_there_may_be(rt: HostRuntime) {
-    let setting = Setting::new(&rt, rt.alloc());
-    let stage = setting.stage(&rt);
-    let (alloc, users) = (stage.alloc, &setting.users);
-    let term = crowd(&rt, alloc, 1_024);
-    let answer = list_text(alloc, ADA, 1_024).expect(&rt, "no memory");
-    let row = Row {
-        about: "1,024 items",
-        term: &term,
-        answer: &answer,
-        rounds: 1,
-        batches: &[("u1", true)],
-        ..ROW
-    };
-    try_row(&stage, users, &row);
-    let term = crowd(&rt, alloc, 1_025);
-    let row = Row {
-        about: "more than 1,024 items",
-        term: &term,
-        answer: "too many",
-        ..ROW
-    };
-    try_row(&stage, users, &row);
-}
-
-/// The term that loads the first user `times` times.
-fn crowd(rt: &impl Abort, alloc: Global, times: usize) -> String {
-    let users = list_text(alloc, "\"u1\"", times).expect(rt, "no memory");
-    let text = format!(in alloc; "{{\"each\":[{{\"value\":{{\"f\":{users}}}}},\"f\",\"user\"]}}");
-    text.expect(rt, "no memory")
-}
-
 /// Plays a row with each of those who end its batches, and checks what it says.
 fn try_row<
     S: Source + Sync,
     R: Abort + AllocGlobal + Eprint + RandomSource + Threads + Wait + Sync,
->(stage: &Stage<'_, R>, source: &S, row: &Row<'_>) {
+>(stage: &Stage<'_, R>, source: &S, row: &Row) {
     for by in row.by {
         let batches = u32::try_from(row.batches.len()).expect(stage.rt, "too many batches");
         let turn = Turn {
             term: row.term,
             by: *by,
             answer: row.answer,
-            refused: &[],
             rounds: row.rounds,
             capacity: 2,
             jobs: u64::from(batches),
@@ -186,7 +133,6 @@ fn each_batch_is_fetched_once(rt: HostRuntime) {
         term: FRIENDS,
         by: By::Itself,
         answer: TWO_FRIENDS,
-        refused: &[],
         rounds: 2,
         capacity: 2,
         jobs: 3,

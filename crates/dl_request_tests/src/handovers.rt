@@ -35,7 +35,6 @@ const LOAD: Turn<'static> = Turn {
     capacity: 2,
     by: By::Worker,
     answer: ADA,
-    refused: &[],
     rounds: 1,
     jobs: 1,
     end: WorkerEnd::Done { batches: 1 },

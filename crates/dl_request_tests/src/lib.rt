@@ -1,6 +1,6 @@
 //! Tests of requests over the shared loader: worked rows of terms on the caller's own thread, of terms that hand their
 //! jobs over to a worker on a thread of its own, of futures that a test polls by hand, and of plans that `serve`
-//! serves; and the same calls with refused growths or threads.
+//! serves; and, with refused growths, those of these calls that no program makes.
 #![tactic(auto)]
 
 #[cfg(test)]

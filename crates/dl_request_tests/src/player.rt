@@ -1,5 +1,6 @@
 //! How rows evaluate terms, one after another, on a loader of two callers: on a caller's own thread, or by the first
-//! caller over a queue, with the second as the worker that takes its jobs. Each has a refusal, which may be of nothing.
+//! caller over a queue, with the second as the worker that takes its jobs. The caller's own thread has a refusal, which
+//! may be of nothing.
 
 ghost use Rattle.std.specs.Prelude.{◌≡◌, All, length};
 ghost use Rattle.dl_desk.specs.Service.{Answers};
@@ -31,8 +32,6 @@ pub(crate) struct Turn<'a> {
     pub(crate) by: By,
     /// The text of its answer, or why there is none.
     pub(crate) answer: &'a str,
-    /// What else it may give if the library refuses it a growth.
-    pub(crate) refused: &'static [&'static str],
     /// The number of rounds of loads that it takes.
     pub(crate) rounds: u32,
     /// The number of jobs that its queue has room for.
@@ -42,6 +41,15 @@ pub(crate) struct Turn<'a> {
     /// How the worker at the queue ends.
     pub(crate) end: WorkerEnd,
 }
+
+/// What a term may give if the library refuses its evaluation a growth. The next growth is free, so the caller can then
+/// fail a batch, and no loader stops.
+static FAILED: [&str; 4] = [
+    "batch of u1: no memory",
+    "batch of u2: no memory",
+    "Call(OutOfMemory)",
+    "OutOfMemory",
+];
 
 /// Who ends the batches of a term.
 #[derive(Clone, Copy)]
@@ -202,13 +210,9 @@ impl<
         };
         let finished = queue.finish(rt, caller.seats, worker.seats);
         let given = caller.given.expect(rt, "no answer");
-        if self.stage.is_own(&given, turn) {
-            assert_is!(rt, &finished, &tally, turn.answer);
-            assert_is!(rt, &worker.end, &Some(turn.end), turn.answer);
-        } else {
-            let is_done = matches!(worker.end, Some(WorkerEnd::Done { .. }));
-            assert!(rt; is_done, "the worker gave up");
-        }
+        self.stage.is_own(&given, turn);
+        assert_is!(rt, &finished, &tally, turn.answer);
+        assert_is!(rt, &worker.end, &Some(turn.end), turn.answer);
         passes.push(caller.pass).expect(rt, "no room");
         passes.push(worker.pass).expect(rt, "no room");
     }
@@ -254,7 +258,8 @@ impl<'l, L: LoaderName, S: Source, R: Abort + Eprint + Wait> Scene<'l, L, S, R> 
         let term = self.stage.term(term);
         self.stage.refusal.begin();
         let evaluated = run_inline(rt, alloc, hashing, self.loader, self.source, pass, term);
-        self.stage.given("run_inline", evaluated)
+        let was_refused = self.stage.refusal.end(rt, "run_inline");
+        self.stage.given(evaluated, was_refused)
     }
 
     /// Has the caller evaluate the term of a turn, before or after it shuts the queue.
@@ -267,7 +272,6 @@ impl<'l, L: LoaderName, S: Source, R: Abort + Eprint + Wait> Scene<'l, L, S, R> 
             queue.shut(stage.rt, &mut caller.seats[0]);
         }
         let term = stage.term(turn.term);
-        stage.refusal.begin();
         let evaluated = run_term(
             stage.rt,
             stage.alloc,
@@ -279,7 +283,7 @@ impl<'l, L: LoaderName, S: Source, R: Abort + Eprint + Wait> Scene<'l, L, S, R> 
             term,
         );
         queue.shut(stage.rt, &mut caller.seats[0]);
-        caller.given = Some(stage.given("run_term", evaluated));
+        caller.given = Some(stage.given(evaluated, false));
         caller
     }
 
@@ -298,9 +302,8 @@ impl<'l, L: LoaderName, S: Source, R: Abort + Eprint + Wait> Scene<'l, L, S, R> 
 }
 
 impl<R: Abort + Eprint> Stage<'_, R> {
-    /// What an evaluation gave, by a call of this name.
-    fn given(&self, call: &str, evaluated: Result<(Answer, u32), RunFault>) -> Given {
-        let was_refused = self.refusal.end(self.rt, call);
+    /// What an evaluation gave, with a refused growth or without.
+    fn given(&self, evaluated: Result<(Answer, u32), RunFault>, was_refused: bool) -> Given {
         let (text, rounds) = match evaluated {
             Ok((answer, rounds)) => (answer_text(self.alloc, &answer), rounds),
             Err(fault) => {
@@ -319,7 +322,7 @@ impl<R: Abort + Eprint> Stage<'_, R> {
     /// give then.
     fn is_own(&self, given: &Given, turn: &Turn<'_>) -> bool {
         let text = given.text.as_str();
-        if given.was_refused && turn.refused.iter().any(|other| *other == text) {
+        if given.was_refused && FAILED.iter().any(|other| *other == text) {
             return false;
         }
         assert_is!(self.rt, &text, &turn.answer, turn.answer);

@@ -1,69 +1,40 @@
-//! Evaluations, polls and served plans, with the first growth refused, then with the second, and so on until nothing
-//! is. Plans get refused threads too.
+//! Evaluations on the caller's own thread, and polls, with the first growth refused, then with the second, and so on
+//! until nothing is. No program makes them, so no test from outside refuses their growths.
 //!
 //! They are then out of memory, or answer as ever. `tests/calls` runs this above `tests/refuse.c`. Without that library
 //! nothing is refused, and each call happens once.
 
 use crate::evaluations::TWO_FRIENDS;
 use crate::player::{By, Turn, play_over};
-use crate::requests::row::{Row, try_row};
-use crate::requests::rows::ROW;
 use crate::stage::Setting;
-use dl_tests::{ADA, BOB, FRIENDS, Kind, MOST_GROWTHS, ONE, Refusal, U2};
-use dl_workers::{NoGate, WorkerEnd};
+use dl_tests::{BOB, FRIENDS, MOST_GROWTHS, Refusal, U2};
+use dl_workers::WorkerEnd;
 use std::slice;
 
 /// The most keys of a batch, cells and calls.
 const MOST: (u32, u32, u32) = (2, 8, 32);
-
-/// What a term may give if the library refuses its evaluation a growth. The next growth is free, so the caller can then
-/// fail a batch, and no loader stops.
-const FAILED: &[&str] = &[
-    "batch of u1: no memory",
-    "batch of u2: no memory",
-    "Call(OutOfMemory)",
-    "OutOfMemory",
-];
 
 /// All friends of a user, on the caller's own thread.
 const FRIENDS_OF_ONE: Turn<'static> = Turn {
     term: FRIENDS,
     by: By::Itself,
     answer: TWO_FRIENDS,
-    refused: FAILED,
     rounds: 2,
     capacity: 2,
     jobs: 2,
     end: WorkerEnd::Done { batches: 2 },
 };
 
-/// Evaluations with the n-th growth refused. One that runs out of memory doesn't happen again: it may have made calls.
-static EVALUATIONS: [Turn<'static>; 3] = [
-    FRIENDS_OF_ONE,
-    Turn {
-        by: By::Worker,
-        ..FRIENDS_OF_ONE
-    },
-    Turn {
-        by: By::Nobody,
-        answer: "batch of u1: unsent",
-        refused: &["Call(OutOfMemory)", "OutOfMemory"],
-        rounds: 1,
-        jobs: 0,
-        end: WorkerEnd::Done { batches: 0 },
-        ..FRIENDS_OF_ONE
-    },
-];
+/// If that runs out of memory it doesn't happen again: it may have made calls.
+static EVALUATIONS: [Turn<'static>; 1] = [FRIENDS_OF_ONE];
 
 #[test]
 fn evaluations_whose_growths_are_refused(rt: HostRuntime) {
     let setting = Setting::new(&rt, rt.alloc());
     for nth in 1..MOST_GROWTHS {
-        let refusal = Refusal::of_each(rt.alloc(), Kind::Growth, nth);
+        let refusal = Refusal::of_each(rt.alloc(), nth);
         let stage = setting.refused(&rt, &refusal);
-        for turn in &EVALUATIONS {
-            let _ = play_over(&stage, &setting.users, MOST, slice::from_ref(turn));
-        }
+        let _ = play_over(&stage, &setting.users, MOST, &EVALUATIONS);
         if !refusal.has_met() {
             return;
         }
@@ -106,40 +77,6 @@ fn polls_that_are_out_of_memory(rt: HostRuntime) {
                 let _ = play_over(&stage, &setting.users, MOST, slice::from_ref(turn));
             }
             assert!(rt; refusal.calls() <= MOST_CALLS, "more calls");
-            if !refusal.has_met() {
-                break;
-            }
-        }
-    }
-}
-
-/// Two plans, one with two rounds.
-static PLANS: Row = Row {
-    about: "two plans where something is refused",
-    most: MOST,
-    queue: 1,
-    times: 1,
-    plans: &[
-        r#"[{"eval":{"each":[{"load":["user","u1"]},"friends","user"]}}]"#,
-        ONE,
-    ],
-    answers: &[&[(0, TWO_FRIENDS)], &[(0, ADA)]],
-    rounds: &[2, 1],
-    batches: Some(&[("u1", true), ("u2 u3", true)]),
-    ..ROW
-};
-
-static KINDS: [Kind; 2] = [Kind::Growth, Kind::Thread];
-
-#[test]
-fn plans_whose_growths_or_threads_are_refused(rt: HostRuntime) {
-    let setting = Setting::new(&rt, rt.alloc());
-    for kind in &KINDS {
-        for nth in 1..MOST_GROWTHS {
-            let refusal = Refusal::of_each(rt.alloc(), *kind, nth);
-            let stage = setting.refused(&rt, &refusal);
-            try_row(&stage, &setting.users, &NoGate, &PLANS);
-            assert!(rt; nth + 1 < MOST_GROWTHS, "refusals without end");
             if !refusal.has_met() {
                 break;
             }

@@ -1,5 +1,5 @@
-//! What a test asks of the library below it, `tests/refuse.c`: to refuse the n-th growth, or the n-th thread, of a
-//! call. If that library isn't there, nothing is refused, and the test is a plain one.
+//! What a test asks of the library below it, `tests/refuse.c`: to refuse the n-th growth of a call. If that library
+//! isn't there, nothing is refused, and the test is a plain one.
 
 use std::alloc::{AllocError, Global};
 use std::cell::Cell;
@@ -9,21 +9,17 @@ use std::io::Eprint;
 /// size.
 const GROWTHS: usize = 5_000_011;
 
-/// The same, for threads.
-const THREADS: usize = 5_200_011;
-
 /// A growth of this many bytes ends that. The library refuses it too if it has refused something.
 const ENDS: usize = 5_400_013;
 
 /// No call makes this many growths.
 pub const MOST_GROWTHS: usize = 10_000;
 
-/// What the library refuses to calls: the n-th growth or the n-th thread of each of them, or of one of them alone.
+/// What the library refuses to calls: the n-th growth of each of them, or of one of them alone.
 #[derive(Drop)]
 pub struct Refusal {
     alloc: Global,
-    kind: Kind,
-    // Which of its growths or threads a call is refused, from 1 on.
+    // Which of its growths a call is refused, from 1 on.
     nth: usize,
     // The number of the one call that is refused something. None: each is.
     only: Option<usize>,
@@ -32,50 +28,25 @@ pub struct Refusal {
     has_met: Cell<bool>,
 }
 
-/// What the library refuses.
-#[derive(Clone, Copy)]
-pub enum Kind {
-    Growth,
-    Thread,
-}
-
-impl Kind {
-    /// The bytes of the growth that asks the library to refuse the n-th.
-    fn word(self, nth: usize) -> usize {
-        match self {
-            Kind::Growth => GROWTHS.saturating_add(nth),
-            Kind::Thread => THREADS.saturating_add(nth),
-        }
-    }
-
-    fn name(self) -> &'static str {
-        match self {
-            Kind::Growth => "growth",
-            Kind::Thread => "thread",
-        }
-    }
-}
-
 impl Refusal {
     /// The library refuses nothing.
     pub fn of_nothing(alloc: Global) -> Refusal {
-        Refusal::by(alloc, Kind::Growth, 1, Some(usize::MAX))
+        Refusal::by(alloc, 1, Some(usize::MAX))
     }
 
-    /// The library refuses each call its n-th growth or thread, from 1 on.
-    pub fn of_each(alloc: Global, kind: Kind, nth: usize) -> Refusal {
-        Refusal::by(alloc, kind, nth, None)
+    /// The library refuses each call its n-th growth, from 1 on.
+    pub fn of_each(alloc: Global, nth: usize) -> Refusal {
+        Refusal::by(alloc, nth, None)
     }
 
     /// The library refuses the call of this number, from 0 on, its n-th growth, and refuses the others nothing.
     pub fn of_growths_of_call(alloc: Global, nth: usize, call: usize) -> Refusal {
-        Refusal::by(alloc, Kind::Growth, nth, Some(call))
+        Refusal::by(alloc, nth, Some(call))
     }
 
-    fn by(alloc: Global, kind: Kind, nth: usize, only: Option<usize>) -> Refusal {
+    fn by(alloc: Global, nth: usize, only: Option<usize>) -> Refusal {
         Refusal {
             alloc,
-            kind,
             nth,
             only,
             calls: Cell::new(0),
@@ -92,7 +63,7 @@ impl Refusal {
             None => true,
         };
         if is_meant {
-            let _ = room(self.alloc, self.kind.word(self.nth));
+            let _ = room(self.alloc, GROWTHS.saturating_add(self.nth));
         }
     }
 
@@ -102,7 +73,7 @@ impl Refusal {
         let was_refused = room(self.alloc, ENDS).is_err();
         if was_refused {
             self.has_met.set(true);
-            let _ = eprintln!(rt; "refused {} {} of {call}", self.kind.name(), self.nth);
+            let _ = eprintln!(rt; "refused growth {} of {call}", self.nth);
         }
         was_refused
     }

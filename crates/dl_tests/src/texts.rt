@@ -1,4 +1,4 @@
-//! The texts of answers and long lists in rows.
+//! The texts of answers in rows.
 
 use dl_terms::{Answer, EvalFault};
 use dl_values::BatchFault;
@@ -35,10 +35,4 @@ fn cause(fault: &BatchFault) -> &str {
         BatchFault::Memory => "no memory",
         BatchFault::Unsent => "unsent",
     }
-}
-
-/// The JSON list of `times` copies of an item.
-pub fn list_text(alloc: Global, item: &str, times: usize) -> Result<String, AllocError> {
-    let items = [item].repeat(alloc, times)?.join(alloc, ",")?;
-    format!(in alloc; "[{}]", items.as_str())
 }

@@ -32,11 +32,6 @@ impl<'a, L: LoaderName, S: Source, R: Abort + Eprint + Wait> Scene<'a, L, S, R> 
         requires { Answers (S.answer self.now.source.now) L.service }
     {
         for (caller, call, want) in steps {
-            if let Some(words) = call.strip_prefix("renew ") {
-                let text = self.renew(passes, words);
-                assert_is!(self.rt, &text.as_str(), want, call);
-                continue;
-            }
             let pass = passes.get_mut(*caller).expect(self.rt, "no such caller");
             assert_is!(self.rt, &(pass.caller() as usize), caller, "caller");
             self.make(pass, call, want);

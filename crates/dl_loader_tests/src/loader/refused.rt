@@ -7,7 +7,7 @@
 use crate::loader::stage::Stage;
 use crate::loader::step::{Part, Row};
 use crate::loader::{play_over, users};
-use dl_tests::{Kind, MOST_GROWTHS, Refusal};
+use dl_tests::{MOST_GROWTHS, Refusal};
 
 /// The calls of one caller.
 static ROWS: [Row; 3] = [
@@ -119,7 +119,7 @@ static TABLES: [Option<&str>; 2] = [None, Some("s")];
 fn calls_of_a_loader(rt: HostRuntime) {
     let users = users(&rt, rt.alloc());
     for nth in 1..MOST_GROWTHS {
-        let refusal = Refusal::of_each(rt.alloc(), Kind::Growth, nth);
+        let refusal = Refusal::of_each(rt.alloc(), nth);
         for table in &TABLES {
             let mut stage = Stage::new(&rt, rt.alloc(), &refusal);
             stage.table = *table;

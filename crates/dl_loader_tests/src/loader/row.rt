@@ -7,32 +7,24 @@ use super::closed_history::history_text;
 use super::player::Scene;
 use super::stage::Stage;
 use super::step::Part;
-use dl_loader::{CloseFault, History, Loader, LoaderName, Opening, Pass, StartFault};
+use dl_loader::{CloseFault, History, Loader, LoaderName, Opening, Pass};
 use dl_source::Source;
 use dl_tests::assert_is;
 use std::io::Eprint;
 use std::process::Abort;
 use std::sync::Wait;
 
-/// Makes the calls and the closes of a row on the loader of an opening, which `L` names. `false` if the start runs out
-/// of memory.
+/// Makes the calls and the closes of a row on the loader of an opening, which `L` names.
 pub(super) fn play<L: LoaderName, S: Source, R: Abort + Eprint + Wait>(
     stage: &Stage<'_, R>,
     source: &S,
     opening: Opening<'_, S>,
     parts: &[Part],
-) -> bool
+)
     requires source { opening.source ≡ source.now }
     requires names { Names S.answer opening L.service L.parts L.cells L.name }
 {
     let started = Loader::<L>::start(stage.alloc, opening);
-    let is_out_of_memory = matches!(started, Err(StartFault::OutOfMemory));
-    if stage
-        .refusal
-        .is_again(stage.rt, "Loader::start", is_out_of_memory)
-    {
-        return false;
-    }
     let (mut loader, mut passes) = started.expect(stage.rt, "no loader");
     for part in parts {
         let scene = Scene {
@@ -44,11 +36,10 @@ pub(super) fn play<L: LoaderName, S: Source, R: Abort + Eprint + Wait>(
         };
         scene.play(passes.as_mut_slice(), part.steps);
         let Some(back) = close(stage, loader, passes, part) else {
-            return true;
+            return;
         };
         (loader, passes) = back;
     }
-    true
 }
 
 /// What a close answers. If it runs out of memory by a refusal, it happens again.

@@ -5,12 +5,11 @@ ghost use Rattle.std.specs.Prelude.{◌≡◌};
 use super::hashing;
 use super::step::Row;
 use dl_desk::{Limits, TableLimit, TableLimits, Text};
-use dl_loader::{Opening, StartFault};
+use dl_loader::Opening;
 use dl_source::Source;
 use dl_tests::Refusal;
 use std::alloc::Global;
 use std::hash::RandomState;
-use std::io::Eprint;
 use std::process::Abort;
 use std::random::RandomSource;
 
@@ -38,7 +37,7 @@ impl<'a, R: Abort + RandomSource> Stage<'a, R> {
     }
 }
 
-impl<R: Abort + Eprint> Stage<'_, R> {
+impl<R: Abort> Stage<'_, R> {
     /// The opening of a row's loader over a source.
     pub(super) fn opening<'s, S: Source>(&self, source: &'s S, row: &Row) -> Opening<'s, S>
         ensures { result.source ≡ source.now }
@@ -46,65 +45,26 @@ impl<R: Abort + Eprint> Stage<'_, R> {
         let (max_batch, max_cells, max_calls) = row.limits;
         let limits = Limits::new(max_batch, max_cells, max_calls);
         let limits = limits.expect(self.rt, "no limits");
+        let (alloc, hashing) = (self.alloc, self.hashing);
         match self.table {
-            Some(table) => self.opening_by_table(source, limits, row.callers, table),
-            None => self.mixed_opening(source, limits, row.callers),
+            Some(table) => {
+                let tables = self.limit_of_one(table);
+                let opened = Opening::by_table(alloc, hashing, source, limits, tables, row.callers);
+                opened.expect(self.rt, "no opening")
+            }
+            None => {
+                let opened = Opening::new(alloc, hashing, source, limits, row.callers);
+                opened.expect(self.rt, "no opening")
+            }
         }
-    }
-
-    /// An opening whose batches may mix tables.
-    fn mixed_opening<'s, S: Source>(
-        &self,
-        source: &'s S,
-        limits: Limits,
-        callers: u32,
-    ) -> Opening<'s, S>
-        ensures { result.source ≡ source.now }
-    {
-        let (alloc, hashing) = (self.alloc, self.hashing);
-        self.refusal.begin();
-        let first = Opening::new(alloc, hashing, source, limits, callers);
-        let is_out_of_memory = matches!(first, Err(StartFault::OutOfMemory));
-        if self
-            .refusal
-            .is_again(self.rt, "Opening::new", is_out_of_memory)
-        {
-            let again = Opening::new(alloc, hashing, source, limits, callers);
-            return again.expect(self.rt, "no opening");
-        }
-        first.expect(self.rt, "no opening")
-    }
-
-    /// An opening with one table in each batch. The batches of this table have one key.
-    fn opening_by_table<'s, S: Source>(
-        &self,
-        source: &'s S,
-        limits: Limits,
-        callers: u32,
-        table: &str,
-    ) -> Opening<'s, S>
-        ensures { result.source ≡ source.now }
-    {
-        let (alloc, hashing) = (self.alloc, self.hashing);
-        let (tables, copy) = (self.limit_of_one(table), self.limit_of_one(table));
-        self.refusal.begin();
-        let first = Opening::by_table(alloc, hashing, source, limits, tables, callers);
-        let is_out_of_memory = matches!(first, Err(StartFault::OutOfMemory));
-        if self
-            .refusal
-            .is_again(self.rt, "Opening::by_table", is_out_of_memory)
-        {
-            let again = Opening::by_table(alloc, hashing, source, limits, copy, callers);
-            return again.expect(self.rt, "no opening");
-        }
-        first.expect(self.rt, "no opening")
     }
 
     /// The limits by which batches of a table have one key.
     fn limit_of_one(&self, table: &str) -> TableLimits {
         let table = Text::new(self.alloc, table).expect(self.rt, "no text");
-        let list = vec![in self.alloc; TableLimit { table, limit: 1 }];
-        let list = list.expect(self.rt, "no memory");
+        let mut list = Vec::new(self.alloc);
+        let pushed = list.push(TableLimit { table, limit: 1 });
+        pushed.expect(self.rt, "no memory");
         TableLimits::new(self.alloc, list).expect(self.rt, "no limits")
     }
 }

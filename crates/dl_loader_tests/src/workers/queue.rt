@@ -78,23 +78,6 @@ fn take<R: Abort + Eprint + Wait>(rt: &R, queue: &JobQueue, taker: &mut Taker, w
 }
 
 #[test]
-fn one_job_and_then_shut(rt: HostRuntime) {
-    let alloc = rt.alloc();
-    let (queue, mut senders, mut takers) = JobQueue::new(alloc, 1, 1, 1).expect(&rt, "no queue");
-    send(&rt, alloc, &queue, &mut senders[0], 0, false);
-    take(&rt, &queue, &mut takers[0], Some(0));
-    queue.shut(&rt, &mut senders[0]);
-    send(&rt, alloc, &queue, &mut senders[0], 1, true);
-    take(&rt, &queue, &mut takers[0], None);
-    let tally = Tally {
-        sent: 1,
-        taken: 1,
-        left: 0,
-    };
-    assert_is!(&rt, &queue.finish(&rt, senders, takers), &tally, "one job");
-}
-
-#[test]
 fn one_job_left(rt: HostRuntime) {
     let alloc = rt.alloc();
     let (queue, mut senders, takers) = JobQueue::new(alloc, 2, 1, 1).expect(&rt, "no queue");

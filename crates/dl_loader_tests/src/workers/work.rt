@@ -1,19 +1,19 @@
 //! Fetch workers: worked rows of the jobs that one takes.
 
-ghost use Rattle.std.specs.Prelude.{◌≡◌, false, length};
+ghost use Rattle.std.specs.Prelude.{◌≡◌, false};
 ghost use Rattle.dl_desk.specs.Service.{Answers};
 ghost use Rattle.dl_loader.specs.Opening.{Names};
 ghost use Rattle.dl_loader.specs.Pass.{GaveTicket};
-ghost use Rattle.dl_queue.specs.Seats.{AreSeatsOf, IsSenderOf, IsTakerOf};
+ghost use Rattle.dl_queue.specs.Seats.{IsSenderOf, IsTakerOf};
 
-use crate::loader::stage::Stage;
-use crate::loader::users;
+use crate::loader::{hashing, users};
 use dl_desk::{FetchKey, Limits};
 use dl_loader::{CallFault, CloseFault, History, Loader, LoaderName, Opening, Pass, Ticket};
 use dl_source::{Source, Tables};
-use dl_tests::{ADA, BOB, Refusal, USERS, assert_is, numbered_keys, outcome_text, tables};
-use dl_workers::{Gate, JobQueue, QueueFault, Sender, Taker, Tally, WorkerEnd, work};
+use dl_tests::{ADA, BOB, assert_is, numbered_keys, outcome_text};
+use dl_workers::{Gate, JobQueue, Sender, Taker, Tally, WorkerEnd, work};
 use std::alloc::Global;
+use std::hash::RandomState;
 use std::io::Eprint;
 use std::marker::Brand;
 use std::process::Abort;
@@ -22,7 +22,7 @@ use std::sync::atomic::{AtomicU32, Ordering};
 
 /// A caller loads, dispatches and sends its jobs, and shuts the queue. Then a worker works, the caller waits for the
 /// outcome of its last load, and makes one more call.
-pub(crate) struct Row {
+struct Row {
     about: &'static str,
     /// The number of jobs that the queue has room for.
     capacity: u32,
@@ -47,7 +47,7 @@ pub(crate) struct Row {
 }
 
 /// A row of one load. The others differ from it.
-pub(crate) const ROW: Row = Row {
+const ROW: Row = Row {
     about: "a batch of one key",
     capacity: 2,
     most: (2, 8, 32),
@@ -140,25 +140,29 @@ impl Gate for Told {
 #[test]
 fn jobs_and_their_ends(rt: HostRuntime) {
     let users = users(&rt, rt.alloc());
-    let nothing = Refusal::of_nothing(rt.alloc());
-    let stage = Stage::new(&rt, rt.alloc(), &nothing);
     for row in &ROWS {
-        try_row(&stage, &users, row);
+        try_row(&rt, rt.alloc(), hashing(&rt), &users, row);
     }
 }
 
 /// Plays a row on a loader of two callers over these tables.
-pub(crate) fn try_row<R: Abort + Eprint + Wait>(stage: &Stage<'_, R>, users: &Tables, row: &Row) {
+fn try_row<R: Abort + Eprint + Wait>(
+    rt: &R,
+    alloc: Global,
+    hashing: RandomState,
+    users: &Tables,
+    row: &Row,
+) {
     let (max_batch, max_cells, max_calls) = row.most;
-    let limits = Limits::new(max_batch, max_cells, max_calls).expect(stage.rt, "no limits");
-    let opening = Opening::new(stage.alloc, stage.hashing, users, limits, 2);
-    let opening = opening.expect(stage.rt, "no opening");
-    play::<Brand, _, _>(stage, users, opening, row);
+    let limits = Limits::new(max_batch, max_cells, max_calls).expect(rt, "no limits");
+    let opening = Opening::new(alloc, hashing, users, limits, 2).expect(rt, "no opening");
+    play::<Brand, _, _>(rt, alloc, users, opening, row);
 }
 
 /// Plays a row on the loader of an opening, which `L` names, and closes it.
 fn play<L: LoaderName, S: Source, R: Abort + Eprint + Wait>(
-    stage: &Stage<'_, R>,
+    rt: &R,
+    alloc: Global,
     source: &S,
     opening: Opening<'_, S>,
     row: &Row,
@@ -166,74 +170,55 @@ fn play<L: LoaderName, S: Source, R: Abort + Eprint + Wait>(
     requires source { opening.source ≡ source.now }
     requires names { Names S.answer opening L.service L.parts L.cells L.name }
 {
-    let (rt, alloc) = (stage.rt, stage.alloc);
     let (loader, mut passes) = Loader::<L>::start(alloc, opening).expect(rt, "no loader");
-    let was_refused = use_loader(stage, &loader, source, &mut passes, row);
+    use_loader(rt, alloc, &loader, source, &mut passes, row);
     match loader.close(alloc, passes) {
-        Ok(history) => assert_batches(rt, &history, row, was_refused),
+        Ok(history) => assert_batches(rt, &history, row),
         Err((fault, _, _)) => assert_is!(rt, &Some(fault), &row.closed.err(), row.about),
     }
 }
 
-/// The history has the batches of the row, settled or not, as the row says. After a refused growth, none is settled.
-fn assert_batches(rt: &(impl Abort + Eprint), history: &History, row: &Row, was_refused: bool) {
+/// The history has the batches of the row, settled or not, as the row says.
+fn assert_batches(rt: &(impl Abort + Eprint), history: &History, row: &Row) {
     let want = row.closed.expect(rt, row.about);
     let batches = history.batches();
     for (number, is_settled) in want.iter().enumerate() {
         let number = u32::try_from(number).expect(rt, "no number of a batch");
         let batch = batches.get(number).expect(rt, "a batch too few");
-        let is_settled = *is_settled && !was_refused;
-        assert_is!(rt, &batch.is_settled(), &is_settled, row.about);
+        assert_is!(rt, &batch.is_settled(), is_settled, row.about);
     }
 }
 
-/// A queue of one sender and one taker.
-fn queue<R: Abort + Eprint>(
-    stage: &Stage<'_, R>,
-    capacity: u32,
-) -> (JobQueue, Vec<Sender>, Vec<Taker>)
-    ensures seats { AreSeatsOf result.0 result.1.items result.2.items }
-    ensures senders { length result.1.items ≡ 1 }
-    ensures takers { length result.2.items ≡ 1 }
-{
-    stage.refusal.begin();
-    let first = JobQueue::new(stage.alloc, capacity, 1, 1);
-    let is_out_of_memory = matches!(first, Err(QueueFault::OutOfMemory));
-    if stage
-        .refusal
-        .is_again(stage.rt, "JobQueue::new", is_out_of_memory)
-    {
-        let again = JobQueue::new(stage.alloc, capacity, 1, 1);
-        return again.expect(stage.rt, "no queue");
-    }
-    first.expect(stage.rt, "no queue")
-}
-
-/// Plays a caller and a worker by these passes. Answers whether the worker failed the batch because of a refused
-/// growth.
+/// Plays a caller and a worker by these passes.
 fn use_loader<L: LoaderName, S: Source, R: Abort + Eprint + Wait>(
-    stage: &Stage<'_, R>,
+    rt: &R,
+    alloc: Global,
     loader: &Loader<L>,
     source: &S,
     passes: &mut Vec<Pass<L>>,
     row: &Row,
-) -> bool
+)
     requires { Answers (S.answer source.now) L.service }
 {
-    let (rt, alloc) = (stage.rt, stage.alloc);
-    let (queue, mut senders, mut takers) = queue(stage, row.capacity);
+    let made = JobQueue::new(alloc, row.capacity, 1, 1);
+    let (queue, mut senders, mut takers) = made.expect(rt, "no queue");
     let mut worker = passes.pop().expect(rt, "no pass");
     let mut caller = passes.pop().expect(rt, "no pass");
     let ticket = load(rt, alloc, loader, &mut caller, row);
     send(rt, alloc, loader, &mut caller, &queue, &mut senders[0]);
     queue.shut(rt, &mut senders[0]);
-    let worked = work_once(stage, loader, source, &mut worker, &queue, &mut takers[0]);
-    assert_is!(rt, &worked.end, &row.end, row.about);
-    assert_is!(rt, &worked.told, &row.told, row.about);
+    work_once(
+        rt,
+        alloc,
+        loader,
+        source,
+        &mut worker,
+        &queue,
+        &mut takers[0],
+        row,
+    );
     let text = wait(rt, alloc, loader, &mut caller, ticket);
-    let is_failed = worked.was_refused && text.as_str() == "memory";
-    let waited = if is_failed { "memory" } else { row.waited };
-    assert_is!(rt, &text.as_str(), &waited, row.about);
+    assert_is!(rt, &text.as_str(), &row.waited, row.about);
     let next = loader.clear_all(rt, alloc, &mut caller);
     assert_is!(rt, &next, &row.next, row.about);
     let tally = Tally {
@@ -244,28 +229,19 @@ fn use_loader<L: LoaderName, S: Source, R: Abort + Eprint + Wait>(
     assert_is!(rt, &queue.finish(rt, senders, takers), &tally, row.about);
     passes.push(caller).expect(rt, "no room");
     passes.push(worker).expect(rt, "no room");
-    is_failed
 }
 
-/// What a worker did.
-#[derive(Clone, Copy)]
-struct Worked {
-    end: WorkerEnd,
-    /// What its gate heard, as the rows write it.
-    told: u32,
-    /// Whether the library refused it a growth.
-    was_refused: bool,
-}
-
-/// A worker ends the jobs of a queue that is shut.
+/// A worker ends the jobs of a queue that is shut, as the row says.
 fn work_once<L: LoaderName, S: Source, R: Abort + Eprint + Wait>(
-    stage: &Stage<'_, R>,
+    rt: &R,
+    alloc: Global,
     loader: &Loader<L>,
     source: &S,
     pass: &mut Pass<L>,
     queue: &JobQueue,
     taker: &mut Taker,
-) -> Worked
+    row: &Row,
+)
     requires source { Answers (S.answer source.now) L.service }
     requires seat { IsTakerOf queue.now taker.old }
     ensures { IsTakerOf queue.now taker.new }
@@ -273,15 +249,14 @@ fn work_once<L: LoaderName, S: Source, R: Abort + Eprint + Wait>(
     let gate = Told {
         digits: AtomicU32::new(0),
     };
-    let (rt, alloc) = (stage.rt, stage.alloc);
-    stage.refusal.begin();
     let end = work(rt, alloc, loader, source, pass, queue, taker, &gate);
-    let was_refused = stage.refusal.end(rt, "work");
-    Worked {
-        end,
-        told: gate.digits.load(Ordering::SeqCst),
-        was_refused,
-    }
+    assert_is!(rt, &end, &row.end, row.about);
+    assert_is!(
+        rt,
+        &gate.digits.load(Ordering::SeqCst),
+        &row.told,
+        row.about
+    );
 }
 
 /// Loads the crowd and the users, each by a call of its own. The ticket is that of the last user.

@@ -1,4 +1,4 @@
-//! Rows of plans, and how `serve` serves them: under a refusal, which may be of nothing.
+//! Rows of plans, and how `serve` serves them.
 
 use crate::batches::{Batch, assert_batches, count_batches};
 use crate::stage::Stage;
@@ -39,8 +39,8 @@ pub(crate) struct Row {
     pub(crate) calls: Option<usize>,
 }
 
-/// Serves the plans of a row as often as it says, each time with the report that it says. If `serve` runs out of memory
-/// by a refusal, serves them again at once. Answers the number of batches in the histories of all these reports.
+/// Serves the plans of a row as often as it says, each time with the report that it says. Answers the number of batches
+/// in the histories of all these reports.
 pub(crate) fn try_row<S: Source + Sync, G: Gate + Sync, R: Abort + Eprint + Threads + Wait + Sync>(
     stage: &Stage<'_, R>,
     source: &S,
@@ -50,26 +50,22 @@ pub(crate) fn try_row<S: Source + Sync, G: Gate + Sync, R: Abort + Eprint + Thre
     let mut batches: u32 = 0;
     for workers in row.workers {
         for _ in 0..row.times {
-            let served = match serve_row(stage, source, gate, *workers, row, true) {
-                None => serve_row(stage, source, gate, *workers, row, false),
-                served => served,
-            };
-            batches = batches.saturating_add(served.expect(stage.rt, "refused nothing"));
+            let served = serve_row(stage, source, gate, *workers, row);
+            batches = batches.saturating_add(served);
         }
     }
     batches
 }
 
-/// Serves the plans of a row with this many workers, refused or not. `None` if that runs out of memory by a refusal.
-/// Else there is the report that the row says, or the fault, and the answer is the number of batches.
+/// Serves the plans of a row with this many workers. There is the report that the row says, or the fault, and the answer
+/// is the number of batches.
 fn serve_row<S: Source + Sync, G: Gate + Sync, R: Abort + Eprint + Threads + Wait + Sync>(
     stage: &Stage<'_, R>,
     source: &S,
     gate: &G,
     workers: u32,
     row: &Row,
-    is_refused: bool,
-) -> Option<u32> {
+) -> u32 {
     let (rt, alloc, hashing) = (stage.rt, stage.alloc, stage.hashing);
     let (max_batch, max_cells, max_calls) = row.most;
     let limits = Limits::new(max_batch, max_cells, max_calls);
@@ -81,32 +77,18 @@ fn serve_row<S: Source + Sync, G: Gate + Sync, R: Abort + Eprint + Threads + Wai
         max_answer: None,
     };
     let plans = stage.plans(row.plans);
-    if is_refused {
-        stage.refusal.begin();
-    }
-    let served = serve(rt, alloc, hashing, source, setup, plans, gate);
-    let was_refused = stage.refusal.end(rt, "serve");
-    let (fault, batches) = match served {
+    let (fault, batches) = match serve(rt, alloc, hashing, source, setup, plans, gate) {
         Ok(report) => {
             stage.assert_report(&report, row);
             (None, count_batches(report.history()))
         }
         Err(fault) => (Some(fault), 0),
     };
-    if was_refused && stage.is_out_of_memory(fault) {
-        return None;
-    }
     assert_is!(rt, &fault, &row.fault, row.about);
-    Some(batches)
+    batches
 }
 
 impl<R: Abort + Eprint> Stage<'_, R> {
-    /// Whether plans may end like this with a refused growth or thread.
-    fn is_out_of_memory(&self, fault: Option<ScopeFault>) -> bool {
-        let text = format!(in self.alloc; "{fault:?}").expect(self.rt, "no memory");
-        text.contains("OutOfMemory") || text.contains("Unfetched")
-    }
-
     /// The report has what the row says.
     fn assert_report(&self, report: &Report, row: &Row) {
         let answers = report.answers();

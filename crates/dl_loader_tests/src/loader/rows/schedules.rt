@@ -12,7 +12,12 @@ static ROWS: [Row; 2] = [
         parts: &[
             Part {
                 steps: &[
-                    (0, "renew u13 see", "batch db down"),
+                    (0, "load u13", "done"),
+                    (0, "dispatch", "done"),
+                    (1, "clear u13", "done"),
+                    (1, "load u13", "done"),
+                    (0, "settle 0 u13", "done"),
+                    (1, "load u13", "done"),
                     (0, "load u13", "done"),
                     (1, "dispatch", "done"),
                     (1, "settle 1 u13", "done"),
@@ -37,7 +42,7 @@ static ROWS: [Row; 2] = [
                     "9 caller 1 load user/u13: fresh 2 in batch 2\n",
                     "10 caller 0 dispatch: sent [batch 2 of [user/u13]]\n",
                     "11 caller 0 fail batch 2 by unsent: done\n",
-                    "caller 0: 0 1 4 saw 0 at 4 6 10 11 of [0, 1, 4, 6, 10, 11]\n",
+                    "caller 0: 0 1 4 6 10 11 of [0, 1, 4, 6, 10, 11]\n",
                     "caller 1: 2 3 5 7 8 9 of [2, 3, 5, 7, 8, 9]\n",
                 ),
             },
@@ -48,7 +53,14 @@ static ROWS: [Row; 2] = [
         limits: (2, 8, 32),
         callers: 2,
         parts: &[Part {
-            steps: &[(0, "renew u1", "Ada"), (0, "look u1", "hit 1: nothing")],
+            steps: &[
+                (0, "load u1", "done"),
+                (0, "dispatch", "done"),
+                (1, "clear u1", "done"),
+                (1, "load u1", "done"),
+                (0, "settle 0 u1", "done"),
+                (0, "look u1", "hit 1: nothing"),
+            ],
             passes: 2,
             close: "Unsettled { batch: 1 }",
         }],

@@ -1,7 +1,7 @@
 use Rattle.dl_values.specs.Answering.{function}
 use Rattle.dl_loader.specs.Opening.{service_of}
 use Rattle.dl_source.specs.Answer.{answer_of}
-use Rattle.dl_loader_tests.proofs.loader.is_played.Given as goal
+use Rattle.dl_loader_tests.proofs.loader.play_over.Given as goal
 
 -- the type names the loader after its opening
 abbrev pub ghosts-play-L-LoaderName : goal.ghosts-play-L-LoaderName

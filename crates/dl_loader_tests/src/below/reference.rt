@@ -1,9 +1,9 @@
 //! The reference loader: what no contract says. It replies to each call.
 
-use crate::assert_is;
 use dl_desk::Text;
-use dl_documents::{Input, Script, read_input};
+use dl_documents::Script;
 use dl_reference::{Atom, Rules, answer};
+use dl_tests::{assert_is, script};
 use std::alloc::Global;
 use std::hash::RandomState;
 use std::process::Abort;
@@ -23,14 +23,6 @@ const TEXT: &str = concat!(
     "sent [batch 0 of [t/a, t/b], batch 1 of [s/x]]\ndone\nfresh 4 in batch 2\ndone\nhit 4\nfresh 5 in batch 2\ndone\n",
     "SettledBefore\nhit 1\ndone\nCellsFull { limit: 6 }\nsent [batch 2 of [t/a, t/b]]\n"
 );
-
-/// The script that a document is, if it is one.
-fn script(alloc: Global, hashing: RandomState, document: &str) -> Option<Script> {
-    match read_input(alloc, hashing, document.as_bytes()) {
-        Ok(Input::Script(script)) => Some(script),
-        Ok(Input::Plans(_)) | Err(_) => None,
-    }
-}
 
 /// The rules of a script whose batches have one table each. Those of `s` have one key.
 fn rules(rt: &impl Abort, alloc: Global, script: &Script) -> Rules {

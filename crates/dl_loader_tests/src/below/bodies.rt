@@ -1,8 +1,8 @@
 //! What terms over lists answer if no document can have them: an item under no body, and an object with a name twice.
 
-use crate::{answer_text, assert_is, json};
 use dl_desk::Text;
 use dl_terms::{Asked, Names, Term, explore, unexplored};
+use dl_tests::{answer_text, assert_is, json};
 use std::alloc::Global;
 use std::hash::RandomState;
 use std::io::Eprint;

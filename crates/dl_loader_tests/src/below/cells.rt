@@ -2,8 +2,8 @@
 ghost use Rattle.std.specs.Prelude.{◌≡◌, ◌<◌};
 ghost use Rattle.dl_cells.specs.Cells.{row_len, cell_of};
 
-use crate::assert_is;
 use dl_cells::{CellRow, Reader};
+use dl_tests::assert_is;
 use std::alloc::Global;
 use std::io::Eprint;
 use std::process::Abort;
@@ -113,8 +113,9 @@ fn threads_look_by_one_shared_reader(rt: HostRuntime) {
     let mut cell = Watched::new(&rt, &row, 0);
     assert_is!(&rt, &cell.show(3), &None, "what came back");
     let shared = &cell;
-    let seen = thread::join(&rt, move || look_again(shared), move || look_again(shared));
-    assert_is!(&rt, &seen, &(Some(3), Some(3)), "what is seen");
+    let (one, other) = thread::join(&rt, move || look_again(shared), move || look_again(shared));
+    assert_is!(&rt, &one, &Some(3), "what one sees");
+    assert_is!(&rt, &other, &Some(3), "what the other sees");
 }
 
 /// Shows a value in cell 0, and then looks with a reader of its own. Answers whether the cell took the value, and what
