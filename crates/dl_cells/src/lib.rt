@@ -10,9 +10,11 @@
 mod flag;
 mod learned;
 mod reader;
+mod ready;
 mod row;
 mod segment;
 
 pub use flag::{Flag, Raised};
 pub use reader::Reader;
+pub use ready::ReadyCell;
 pub use row::CellRow;

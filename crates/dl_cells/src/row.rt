@@ -8,6 +8,7 @@ ghost use Rattle.dl_cells.specs.Cells.{row_len, cell_of, Agrees};
 
 use crate::learned::Learned;
 use crate::reader::Reader;
+use crate::ready::ReadyCell;
 use crate::segment::{SEGMENT, Segment};
 use once_cell::race::OnceBox;
 use std::alloc::{AllocError, Global};
@@ -76,26 +77,51 @@ impl<T: Drop> CellRow<T> {
     ///
     /// # Errors
     /// `AllocError` if memory runs out for that.
-    // Inlined, since each event makes a reader, and mostly of a cell whose segment is there.
     #[inline(always)]
     pub fn reader(&self, i: u32) -> Result<Reader<T>, AllocError>
         requires { i < row_len self.now }
         ensures cell { IfOk result (λ reader. reader.cell ≡ cell_of self.now i) }
         ensures known { IfOk result (λ reader. reader.known ≡ None) }
     {
+        let ReadyCell {
+            segment: _,
+            learned,
+            place,
+        } = self.ready(i)?;
+        Ok(Reader {
+            segment: learned,
+            place,
+            value: None,
+        })
+    }
+
+    /// Makes cell `i` ready to be set, so that this takes no memory any more: if the cell's segment isn't there, the call
+    /// makes it.
+    ///
+    /// # Errors
+    /// `AllocError` if memory runs out for that.
+    // Inlined, since each event asks for a cell, and mostly for one whose segment is there.
+    #[inline(always)]
+    pub fn ready(&self, i: u32) -> Result<ReadyCell<'_, T>, AllocError>
+        requires { i < row_len self.now }
+        ensures { IfOk result (λ ready. ready ≡ cell_of self.now i) }
+    {
         let alloc = *self.segments.allocator();
         let home = self.home(i);
         let mut note = home.note();
-        if home.get_as(&mut note).is_none() {
-            let make = move || -> Result<Box<Segment<T>>, AllocError> {
-                Ok(Box::new(alloc, Segment::new(alloc)?)?)
-            };
-            home.get_or_try_init_as(make, &mut note)?;
-        }
-        Ok(Reader {
-            segment: Learned::of(&mut note),
+        let segment = match home.get_as(&mut note) {
+            Some(segment) => segment,
+            None => {
+                let make = move || -> Result<Box<Segment<T>>, AllocError> {
+                    Ok(Box::new(alloc, Segment::new(alloc)?)?)
+                };
+                home.get_or_try_init_as(make, &mut note)?
+            }
+        };
+        Ok(ReadyCell {
+            segment,
+            learned: Learned::of(&mut note),
             place: (i % SEGMENT) as u8,
-            value: None,
         })
     }
 
@@ -104,7 +130,6 @@ impl<T: Drop> CellRow<T> {
     /// # Errors
     /// You get `value` back if the cell has one already, or if another thread is just setting it. The reader then knows
     /// what it knew before.
-    // Not inlined by force: so the compiler first takes the slot's write into it, which it leaves out of line in a long caller.
     pub fn show(&self, i: u32, reader: &mut Reader<T>, value: T) -> Result<(), T>
         requires in_row { i < row_len self.now }
         requires of_cell { reader.old.cell ≡ cell_of self.now i }

@@ -1,7 +1,7 @@
 //! Thirty-two cells that a row makes together.
-ghost use Rattle.std.specs.Prelude.{◌≡◌, ◌<◌, slice_index, ⊤};
+ghost use Rattle.std.specs.Prelude.{◌≡◌, ◌<◌, IfErr, IfOk, slice_index, ⊤};
 
-use boxcar::slot::{OnceSlot, SlotRule};
+use boxcar::slot::{OnceSlot, SlotRule, Written};
 use boxcar::tag::Tag;
 use std::alloc::{AllocError, Global};
 use std::marker::Model;
@@ -57,5 +57,15 @@ impl<T> Segment<T> {
         ensures { result.now.id ≡ slice_index self.now place }
     {
         &self.cells[place as usize]
+    }
+
+    /// Sets the cell at a place. You get `value` back if the cell has one already, or if another thread is just setting it.
+    // Not inlined by force: so the compiler first takes the slot's write into it, which it leaves out of line in a long caller.
+    pub(crate) fn set(&self, place: u32, value: T) -> Result<Written<T>, T>
+        requires { place < SEGMENT }
+        ensures ok { IfOk result (λ written. (written.of ≡ slice_index self.now place) × (written.value ≡ value)) }
+        ensures back { IfErr result (λ back. back ≡ value) }
+    {
+        self.cell(place).set_written(value)
     }
 }

@@ -6,9 +6,9 @@ ghost use Rattle.dl_history.specs.Agreement.{Meets};
 ghost use Rattle.dl_history.specs.Entries.{event_at, read, event_known, ending_known, kind_of, Called, Saw};
 ghost use Rattle.dl_history.specs.Journal.{IsKnown};
 
-use crate::journal::Journal;
+use crate::journal::{AppendFault, Journal};
 use crate::name::LoaderName;
-use dl_cells::{CellRow, Reader};
+use dl_cells::{CellRow, Reader, ReadyCell};
 use dl_desk::{Ending, Event};
 use std::fmt;
 use std::marker::{Model, PhantomData};
@@ -56,28 +56,26 @@ impl<L: LoaderName> Model for PlacedEvent<L> {
 }
 
 impl<L: LoaderName> PlacedEvent<L> {
-    /// Puts an event into its cell of the log. If the log has another event there, you get the event back.
+    /// Puts an event into its cell of the log. Fails if the log has another event there.
     // Inlined, so that an event is made where it will lie, and not moved there.
     #[inline(always)]
     pub(crate) fn store(
-        row: &CellRow<Event>,
         at: u16,
-        reader: &mut Reader<Event>,
+        cell: ReadyCell<'_, Event>,
         event: Event,
-    ) -> Result<PlacedEvent<L>, Event>
-        requires row { row.now ≡ L.cells.log }
+    ) -> Result<PlacedEvent<L>, AppendFault>
         requires in_row { at < row_len L.cells.log }
-        requires of_cell { reader.old.cell ≡ cell_of L.cells.log at }
-        ensures cell { reader.new.cell ≡ reader.old.cell }
-        ensures stored { IfOk result (λ stored. stored ≡ event_at at event) }
-        ensures back { IfErr result (λ back. back ≡ event) }
+        requires of_cell { cell ≡ cell_of L.cells.log at }
+        ensures { IfOk result (λ stored. stored ≡ event_at at event) }
     {
-        row.show(u32::from(at), reader, event)?;
-        Ok(PlacedEvent {
-            at,
-            reader: reader.again(),
-            of: PhantomData,
-        })
+        match cell.show(event) {
+            Ok(reader) => Ok(PlacedEvent {
+                at,
+                reader,
+                of: PhantomData,
+            }),
+            Err(_) => Err(AppendFault::LogRefused),
+        }
     }
 
     /// The place in the log.

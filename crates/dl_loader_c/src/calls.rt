@@ -88,15 +88,15 @@ fn load_key<L: LoaderName>(
         return LoadTicket::refused(NO_CALLER);
     }
     let ticket = loader.tickets(caller);
-    let loaded = loader.load(alloc, caller, &key);
-    *spare = Some(key);
-    match loaded {
+    let answer = match loader.load(alloc, caller, &key) {
         Ok(reply) => {
             loader.keeps();
             LoadTicket::of_load(ticket, reply)
         }
         Err(fault) => LoadTicket::refused(call_code(fault)),
-    }
+    };
+    *spare = Some(key);
+    answer
 }
 
 /// Begins a cell for the key, in no batch, since your host has its outcome. If the loader holds the key, nothing changes but

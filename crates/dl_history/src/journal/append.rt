@@ -12,7 +12,7 @@ use crate::cell_rows::CellRows;
 use crate::entry::PlacedEvent;
 use crate::journal::Journal;
 use crate::name::LoaderName;
-use dl_cells::{CellRow, Reader};
+use dl_cells::{CellRow, ReadyCell};
 use dl_desk::{Ending, Event};
 use std::alloc::AllocError;
 use std::sync::ledger::Share;
@@ -62,32 +62,32 @@ impl<L: LoaderName> Journal<L> {
     {
         let place = self.next_place(rows);
         let first = self.next_cell(rows, cells);
-        let Ok(mut reader) = self.grow(rows, place, first, cells) else {
-            let_go(event);
+        let Ok(cell) = self.grow(rows, place, first, cells) else {
+            self.cut_cells(first);
             return Err(AppendFault::OutOfMemory);
         };
-        let stored = match PlacedEvent::store(rows.log(), place, &mut reader, event) {
-            Ok(stored) => stored,
-            Err(event) => {
-                let_go(event);
-                self.cut_cells(first);
-                return Err(AppendFault::LogRefused);
+        match PlacedEvent::store(place, cell, event) {
+            Ok(stored) => {
+                self.add(&stored, share);
+                Ok(stored)
             }
-        };
-        self.add(&stored, share);
-        Ok(stored)
+            Err(fault) => {
+                self.cut_cells(first);
+                Err(fault)
+            }
+        }
     }
 
-    /// Makes the allocations of an event at a place and begins its cells, with `first` as the next. Answers a reader of
-    /// the event's cell, which knows nothing of it. If memory runs out, the call fails and changes nothing.
+    /// Makes the allocations of an event at a place and begins its cells, with `first` as the next. Answers the cell of the
+    /// log for it. If memory runs out, the call fails, and some of the cells may have begun.
     #[inline(always)]
-    fn grow(
+    fn grow<'a>(
         &mut self,
-        rows: &CellRows<L>,
+        rows: &'a CellRows<L>,
         place: u16,
         first: u32,
         cells: u32,
-    ) -> Result<Reader<Event>, AllocError>
+    ) -> Result<ReadyCell<'a, Event>, AllocError>
         requires place { place < L.service.rules.limits.max_calls }
         requires first { first ≡ length self.old.cells }
         requires in_row { first + cells ≤ L.service.rules.limits.max_cells }
@@ -95,19 +95,20 @@ impl<L: LoaderName> Journal<L> {
         ensures history { self.new.history ≡ self.old.history }
         ensures cells { OnOk result (self.new.cells ≡ self.old.cells ++ repeat cells (waiting ∷ [])) }
         ensures room { OnOk result (0 < self.new.spare) }
-        ensures cell { IfOk result (λ reader. reader.cell ≡ cell_of L.cells.log place) }
-        ensures unchanged { OnErr result (self.new.cells ≡ self.old.cells) }
+        ensures cell { IfOk result (λ cell. cell ≡ cell_of L.cells.log place) }
+        ensures in_log { OnOk result (place < row_len L.cells.log) }
+        ensures begun { OnErr result (take first self.new.cells ≡ self.old.cells) }
     {
         self.reserve()?;
-        let reader = rows.log().reader(u32::from(place))?;
+        let cell = rows.log().ready(u32::from(place))?;
         if cells > 0 {
             self.begin_cells(rows.outcomes(), first, cells)?;
         }
-        Ok(reader)
+        Ok(cell)
     }
 
-    /// Begins `cells` cells, which have no end yet, with `first` as the next. If memory runs out, the call fails and
-    /// changes nothing.
+    /// Begins `cells` cells, which have no end yet, with `first` as the next. If memory runs out, the call fails, and some
+    /// of them may have begun.
     #[inline(always)]
     fn begin_cells(
         &mut self,
@@ -122,20 +123,18 @@ impl<L: LoaderName> Journal<L> {
         ensures history { self.new.history ≡ self.old.history }
         ensures cells { OnOk result (self.new.cells ≡ self.old.cells ++ repeat cells (waiting ∷ [])) }
         ensures room { self.new.spare ≡ self.old.spare }
-        ensures unchanged { OnErr result (self.new.cells ≡ self.old.cells) }
+        ensures begun { OnErr result (take first self.new.cells ≡ self.old.cells) }
     {
         self.reserve_cells(cells)?;
         for more in 0..cells {
-            let Ok(reader) = row.reader(first + more) else {
-                self.cut_cells(first);
-                return Err(AllocError);
-            };
+            let reader = row.reader(first + more)?;
             self.add_cell(reader);
         }
         Ok(())
     }
 
     /// Takes back all cells from `first` on.
+    #[cold]
     fn cut_cells(&mut self, first: u32)
         ensures history { self.new.history ≡ self.old.history }
         ensures cells { self.new.cells ≡ take first self.old.cells }
@@ -166,12 +165,4 @@ impl<L: LoaderName> Journal<L> {
         prove!(first <= most);
         first as u32
     }
-}
-
-/// Lets an event go that the log didn't take.
-// Out of line, so that a call that is made has no code for it.
-#[cold]
-#[inline(never)]
-fn let_go(event: Event) {
-    drop(event);
 }

@@ -6,7 +6,7 @@ use Rattle.dl_history.proofs.journal.Journal.begin_cells.Goals as goal
 pub add_cell-requires-clause-cell : goal.add_cell-requires-clause-cell
 add_cell-requires-clause-cell g c =
     let begun = length-begun c.args.self.now.cells c.loop-more.self.cells c.loop-more.more waiting c.loop-more.invariant.cells in
-    rw (begun, ← c.requires.first, ← c.requires.row) c.in-Ok.ensures.cell
+    rw (begun, ← c.requires.first, ← c.requires.row) c.in_ok-reader.ensures.cell
 
 pub loop-more-preserved : goal.loop-more-preserved
 loop-more-preserved g c =
