@@ -70,17 +70,15 @@ impl<L: LoaderName> Book<L> {
         }
     }
 
-    /// Whether a pass may make an event now. Fails by the first of these causes that applies: `Stopped`, `Behind`,
+    /// Whether a pass may make an event now, while the loader runs. Fails by the first of these causes that applies: `Behind`,
     /// `LogFull`.
     fn admit(&self, rows: &CellRows<L>, pass: &Pass<L>) -> Result<(), CallFault>
+        requires running { self.now.flags.stopped ≡ false }
         ensures ok { OnOk result (unready L.service self.now pass.now.trace ≡ None) }
         ensures fault { IfErr result (λ fault. unready L.service self.now pass.now.trace ≡ Some fault) }
         ensures after { OnOk result (front_of pass.now.trace.entries ≤ length self.now.history) }
         ensures room { OnOk result (length self.now.history < L.service.rules.limits.max_calls) }
     {
-        if self.flags.is_stopped() {
-            return Err(CallFault::Stopped);
-        }
         let front = pass.front();
         let len = self.journal.len();
         if len < front as usize {

@@ -99,6 +99,6 @@ fn tell<L: LoaderName, C: EventCall>(
     ensures fault { IfErr result (IsRefusal L.service book.old pass.old.trace (C.call call.now) (C.job call.now)) }
     ensures unchanged { OnErr result ((book.new ≡ book.old) × (pass.new.trace ≡ pass.old.trace)) }
 {
-    let (answer, ended) = book.record(alloc, rows, pass, call)?;
+    let (answer, ended) = book.record_unless_stopped(alloc, rows, pass, call)?;
     Ok((C::tell(answer), ended.refused))
 }

@@ -1,6 +1,6 @@
 //! The one step of a book: an event, whatever its call.
 
-ghost use Rattle.std.specs.Prelude.{◌≡◌, ◌+◌, ◌<◌, ◌≤◌, true, IfErr, IfOk, None, OnErr, OnOk, length};
+ghost use Rattle.std.specs.Prelude.{◌≡◌, ◌+◌, ◌<◌, ◌≤◌, false, true, IfErr, IfOk, None, OnErr, OnOk, length};
 ghost use Rattle.dl_history.specs.Entries.{cell_of_load};
 ghost use Rattle.dl_history.specs.Journal.{refusals};
 ghost use Rattle.dl_history.specs.Lists.{Every};
@@ -20,10 +20,10 @@ use std::sync::Wait;
 
 impl<L: LoaderName> Book<L> {
     /// Makes a call as an event of the pass, which gets its tickets. Answers what the desk replied, and how the cells
-    /// that the call ends took their outcomes.
+    /// that the call ends took their outcomes. The loader runs.
     ///
     /// # Errors
-    /// The first of these causes that applies: `Stopped`, `Behind`, `LogFull`, the call's own; else `OutOfMemory` or
+    /// The first of these causes that applies: `Behind`, `LogFull`, the call's own; else `OutOfMemory` or
     /// `LogRefused`. The book is then as it was, and so are the calls, reads and tickets of the pass.
     // Inlined, so that an event is made where it will lie, and not moved there.
     #[inline(always)]
@@ -34,6 +34,7 @@ impl<L: LoaderName> Book<L> {
         pass: &mut Pass<L>,
         call: &C,
     ) -> Result<(C::Reply, Settled), CallFault>
+        requires running { self.old.flags.stopped ≡ false }
         requires answers { C.brings call.now L.service.answer }
         ensures made { IfOk result (λ r. Makes self.old pass.old.trace (C.call call.now) (C.told r.0) self.new pass.new.trace) }
         ensures accepted { OnOk result (refusal L.service self.old pass.old.trace (C.call call.now) (C.job call.now) ≡ None) }
@@ -68,6 +69,29 @@ impl<L: LoaderName> Book<L> {
         Ok((answer, settled(rows, ended, refused)))
     }
 
+    /// The same, unless the loader is stopped: then the call fails by `Stopped`.
+    #[inline(always)]
+    pub(crate) fn record_unless_stopped<C: EventCall>(
+        &mut self,
+        alloc: Global,
+        rows: &CellRows<L>,
+        pass: &mut Pass<L>,
+        call: &C,
+    ) -> Result<(C::Reply, Settled), CallFault>
+        requires answers { C.brings call.now L.service.answer }
+        ensures made { IfOk result (λ r. Makes self.old pass.old.trace (C.call call.now) (C.told r.0) self.new pass.new.trace) }
+        ensures accepted { OnOk result (refusal L.service self.old pass.old.trace (C.call call.now) (C.job call.now) ≡ None) }
+        ensures refused { IfOk result (λ r. refusals self.new.cells ≡ refusals self.old.cells + r.1.refused) }
+        ensures each { IfOk result (λ r. r.1.shown + r.1.refused ≡ ended_count (C.job call.now) (C.told r.0)) }
+        ensures fault { IfErr result (IsRefusal L.service self.old pass.old.trace (C.call call.now) (C.job call.now)) }
+        ensures unchanged { OnErr result ((self.new ≡ self.old) × (pass.new.trace ≡ pass.old.trace)) }
+    {
+        if self.flags.is_stopped() {
+            return Err(CallFault::Stopped);
+        }
+        self.record(alloc, rows, pass, call)
+    }
+
     /// The same, as its caller knows it.
     #[inline(always)]
     pub(crate) fn make<C: EventCall>(
@@ -88,7 +112,7 @@ impl<L: LoaderName> Book<L> {
         ensures unchanged { OnErr result (pass.new.trace ≡ pass.old.trace) }
     {
         self.keeps();
-        match self.record(alloc, rows, pass, call) {
+        match self.record_unless_stopped(alloc, rows, pass, call) {
             Ok(made) => {
                 self.keeps();
                 Ok(made)
