@@ -40,13 +40,13 @@ database_rule = record (new_rule (codes "database")) { long = Some (codes "datab
 abbrev pub tables_rule : Rule
 tables_rule = record (new_rule (codes "tables")) { long = Some (codes "tables"); value_names = 1 }
 
--- the command line but for the files
-abbrev pub serving_app : App
-serving_app = with_rule (with_rule (on_top with_version (on_top without_name (new_app (codes "plan_server")))) workers_rule) max_answer_rule
+-- the command line without options
+abbrev pub program_app : App
+program_app = on_top with_version (on_top without_name (new_app (codes "plan_server")))
 
 -- the command line
 abbrev pub server_app : App
-server_app = with_rule (with_rule serving_app database_rule) tables_rule
+server_app = with_rule (with_rule (with_rule (with_rule program_app workers_rule) max_answer_rule) database_rule) tables_rule
 
 -- the rows give this number of bytes
 pub record GivesBytes (rows : List Row) (n : ℕ) : Type 0 where

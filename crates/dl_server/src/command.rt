@@ -1,8 +1,8 @@
 //! The command line.
 
 ghost use Rattle.std.specs.Prelude.{◌≡◌, ◌&&◌, IfOk, IfSome, false, is_some, map, option_map, string_bytes};
-ghost use Rattle.clap.specs.Words.{app_of, found_of, matches_of, rows_of, rule_of};
-ghost use Rattle.dl_server.specs.Words.{AreGiven, Gives, GivesBytes, database_rule, max_answer_rule, server_app, serving_app, tables_rule, workers_rule};
+ghost use Rattle.clap.specs.Words.{App, Rule, app_of, found_of, matches_of, rows_of, rule_of, with_rule};
+ghost use Rattle.dl_server.specs.Words.{AreGiven, GivesBytes, database_rule, max_answer_rule, program_app, server_app, tables_rule, workers_rule};
 
 use clap::error::ErrorKind;
 use clap::{Arg, ArgMatches, Command, Error, value_parser};
@@ -31,63 +31,55 @@ pub fn given_settings<'a, S: AsStr>(alloc: Global, words: &'a [S]) -> Result<Set
     ensures { IfOk result (AreGiven (matches_of server_app (map S.text words.entry.now))) }
 {
     let mut command = command(alloc)?;
-    match read(alloc, &mut command, words) {
-        Ok(Some(settings)) => {
-            if has_two_files(&settings) {
-                return Err(out_of_sources(&mut command));
-            }
-            Ok(settings)
-        }
-        Ok(None) => Err(out_of_range(&mut command)),
-        Err(error) => match error.kind() {
-            ErrorKind::ValueValidation => Err(out_of_range(&mut command)),
-            _ => Err(error),
-        },
-    }
+    read(alloc, &mut command, words)
 }
 
-/// Whether two files are named.
-fn has_two_files(settings: &Settings) -> bool
-    ensures { result ≡ (is_some settings.now.database && is_some settings.now.tables) }
-{
-    settings.database.is_some() && settings.tables.is_some()
-}
-
-/// What the words give by the command line, or `None` if a number is out of range.
+/// What the words give by the command line.
 fn read<'a, S: AsStr>(
     alloc: Global,
     command: &mut Command<'a>,
     words: &'a [S],
-) -> Result<Option<Settings>, Error>
+) -> Result<Settings, Error>
     requires { app_of command.old ≡ server_app }
-    ensures { IfOk result (λ given. IfSome given (Gives (matches_of server_app (map S.text words.entry.now)))) }
+    ensures { IfOk result (AreGiven (matches_of server_app (map S.text words.entry.now))) }
 {
-    let matches = command.try_get_matches_from_mut(words)?;
-    match given(alloc, &matches) {
-        Ok(given) => Ok(given),
-        Err(error) => Err(Error::from(error)),
+    match command.try_get_matches_from_mut(words) {
+        Ok(matches) => given(alloc, command, &matches),
+        Err(error) => Err(refusal(command, error)),
     }
 }
 
-/// What the matches give, or `None` if a number is out of range.
-fn given(alloc: Global, matches: &ArgMatches) -> Result<Option<Settings>, AllocError>
-    ensures { IfOk result (λ given. IfSome given (Gives (rows_of (found_of matches.now)))) }
+/// What the matches give.
+fn given(alloc: Global, command: &mut Command<'_>, matches: &ArgMatches) -> Result<Settings, Error>
+    ensures { IfOk result (AreGiven (rows_of (found_of matches.now))) }
 {
     let workers = match matches.get_one::<u32>("workers") {
         Some(workers) if (1..=16).contains(&workers) => workers,
-        _ => return Ok(None),
+        _ => return Err(out_of_range(command)),
     };
     let Some(max_answer) = most_bytes(matches) else {
-        return Ok(None);
+        return Err(out_of_range(command));
     };
-    let database = copied(alloc, matches.get_str("database"))?;
-    let tables = copied(alloc, matches.get_str("tables"))?;
-    Ok(Some(Settings {
+    let database = matches.get_str("database");
+    let tables = matches.get_str("tables");
+    if are_two(database, tables) {
+        return Err(out_of_sources(command));
+    }
+    let database = copied(alloc, database)?;
+    let tables = copied(alloc, tables)?;
+    Ok(Settings {
         workers,
         max_answer,
         database,
         tables,
-    }))
+    })
+}
+
+/// Whether both files are named.
+fn are_two(database: Option<&str>, tables: Option<&str>) -> bool
+    ensures { result ≡ (is_some database.entry && is_some tables.entry) }
+{
+    database.is_some() && tables.is_some()
 }
 
 /// The most bytes that a plan's answers may take, or `None` if the number is out of range.
@@ -119,6 +111,14 @@ pub(crate) fn unreadable(alloc: Global) -> Error {
     }
 }
 
+/// The error for words that clap refuses: of a number that is out of range it says the range.
+fn refusal(command: &mut Command<'_>, error: Error) -> Error {
+    match error.kind() {
+        ErrorKind::ValueValidation => out_of_range(command),
+        _ => error,
+    }
+}
+
 /// The error for a number that is out of range, with the usage in its text.
 fn out_of_range(command: &mut Command<'_>) -> Error {
     let message = "--workers takes a number from 1 to 16, and --max-answer from 1 to 4294967295";
@@ -143,21 +143,29 @@ fn refused(command: &mut Command<'_>, kind: ErrorKind, message: &str) -> Error {
 fn command<'a>(alloc: Global) -> Result<Command<'a>, AllocError>
     ensures { IfOk result (λ c. app_of c ≡ server_app) }
 {
-    serving_words(alloc)?
-        .arg(database(alloc))?
-        .arg(tables(alloc))
+    let words = with(Ok(program(alloc)), workers(alloc));
+    let words = with(words, max_answer(alloc));
+    let words = with(words, database(alloc));
+    with(words, tables(alloc))
 }
 
-/// The options that say how plans are served.
-fn serving_words<'a>(alloc: Global) -> Result<Command<'a>, AllocError>
-    ensures { IfOk result (λ c. app_of c ≡ serving_app) }
+/// The command line without options.
+fn program<'a>(alloc: Global) -> Command<'a>
+    ensures { app_of result ≡ program_app }
 {
     Command::new(alloc, "plan_server")
         .about("Answers the requests of one HTTP connection, on standard input and output")
         .no_binary_name(true)
         .version("0.6.0")
-        .arg(workers(alloc))?
-        .arg(max_answer(alloc))
+}
+
+/// These words with one option more, unless memory ran out.
+fn with<'a>(words: Result<Command<'a>, AllocError>, arg: Arg<'a>) -> Result<Command<'a>, AllocError>
+    requires { arg.global ≡ false }
+    ensures { (app : App) (rule : Rule) → rule_of arg.entry ≡ rule → IfOk words.entry (λ c. app_of c ≡ app)
+        → IfOk result (λ c. app_of c ≡ with_rule app rule) }
+{
+    words?.arg(arg)
 }
 
 /// `--workers N`.
