@@ -1,9 +1,11 @@
 -- What the matches of a command line give.
 use Rattle.std.proofs.Common.{◌≡◌, ℕ, true, List, Option, Some, None, option_map, String, codes, refl, sym, subst, ◌∙◌}
-use Rattle.std.specs.Option.{IfSome}
+use Rattle.std.specs.Prelude.{IfOk, Result}
 use Rattle.std.specs.declared.alloc.Global.{Global}
+use Rattle.std.proofs.lemmas.Result.{IfOk-weaker}
 use Rattle.clap.proofs.WalkLemmas.{one_text-rows}
 use Rattle.clap.specs.Matches.{one_text, subcommand_name_of}
+use Rattle.clap.specs.declared.error.Error.{Error}
 use Rattle.clap.specs.declared.parser.matches.ArgMatches.{ArgMatches}
 use Rattle.clap.specs.declared.parser.matches.Found.{Found}
 use Rattle.clap.specs.Words.{App, HasMatchesOf, Row, Text, found_of, is_simple, matches_of, rows_of, subcommand_of, subcommand_rows_of}
@@ -27,15 +29,22 @@ mapped_twice : {A B C : Type 0} (g : B → C) (f : A → B) (o : Option A) → o
 mapped_twice g f None = refl
 mapped_twice g f (Some x) = refl
 
+-- what was given is what the matches give
+pub were_given : (rows : List Row) (used : Option (Text × List Row)) (o : Options) (file : Option (String Global))
+    (given : Result (Options × Option (String Global)) Error) → IfOk given (λ g. g ≡ (o, file)) → AreGiven rows used o file
+    → IfOk given (λ g. AreGiven rows used g.0 g.1)
+were_given rows used o file given is are =
+    IfOk-weaker given _ _ (λ g same. subst (λ (p : Options × Option (String Global)). AreGiven rows used p.0 p.1) (sym same) are) is
+
 -- what the matches give, the words give, by a command line that is simple
-pub given_by_words : (built meant : App) (words : List Text) (m : ArgMatches) (given : Option (Options × Option (String Global))) → built ≡ meant
+pub given_by_words : (built meant : App) (words : List Text) (m : ArgMatches) (given : Result (Options × Option (String Global)) Error) → built ≡ meant
     → is_simple meant ≡ true → HasMatchesOf built words m
-    → IfSome given (λ g. AreGiven (rows_of (found_of m)) (subcommand_rows_of m) g.0 g.1)
-    → IfSome given (λ g. AreGiven (matches_of meant words) (subcommand_of meant words) g.0 g.1)
+    → IfOk given (λ g. AreGiven (rows_of (found_of m)) (subcommand_rows_of m) g.0 g.1)
+    → IfOk given (λ g. AreGiven (matches_of meant words) (subcommand_of meant words) g.0 g.1)
 given_by_words built meant words m given is simple has are =
     let of_words = subst (λ (a : App). HasMatchesOf a words m) is has simple in
-    subst (λ (used : Option (Text × List Row)). IfSome given (λ g. AreGiven (matches_of meant words) used g.0 g.1)) of_words.1
-    (subst (λ (rows : List Row). IfSome given (λ g. AreGiven rows (subcommand_rows_of m) g.0 g.1)) of_words.0 are)
+    subst (λ (used : Option (Text × List Row)). IfOk given (λ g. AreGiven (matches_of meant words) used g.0 g.1)) of_words.1
+    (subst (λ (rows : List Row). IfOk given (λ g. AreGiven rows (subcommand_rows_of m) g.0 g.1)) of_words.0 are)
 
 -- the subcommand that was used has its name
 pub name_used : (m : ArgMatches) → name_of (subcommand_rows_of m) ≡ subcommand_name_of m

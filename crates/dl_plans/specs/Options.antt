@@ -81,9 +81,13 @@ to_rule = record (new_rule (codes "to")) {
 abbrev pub migrate_app : App
 migrate_app = with_rule (new_app (codes "migrate")) to_rule
 
+-- the command line without options
+abbrev pub program_app : App
+program_app = on_top without_name (new_app (codes "plans"))
+
 -- the options that say how the plans are served, and what standard output has of it
 abbrev pub serving_app : App
-serving_app = with_rule (with_rule (with_rule (on_top without_name (new_app (codes "plans"))) workers_rule) max_answer_rule) batches_rule
+serving_app = with_rule (with_rule (with_rule program_app workers_rule) max_answer_rule) batches_rule
 
 -- the options for answering a document that name no file
 abbrev pub answering_app : App

@@ -1,9 +1,9 @@
 //! The command line.
 
 ghost use Rattle.std.specs.Prelude.{◌≡◌, IfOk, IfSome, map, option_map, false, string_bytes};
-ghost use Rattle.clap.specs.Words.{app_of, rule_of, found_of, matches_of, rows_of, subcommand_of, subcommand_rows_of};
-ghost use Rattle.dl_plans.specs.Options.{plans_app, plans_words_app, file_words_app, answering_app, serving_app, have_one_name, AreApart, AreGiven, GivesMost};
-ghost use Rattle.dl_plans.specs.Options.{Migrates, migrate_app, to_rule, workers_rule, max_answer_rule, batches_rule, explain_rule, statistics_rule, picture_rule, trace_rule, database_rule, history_rule};
+ghost use Rattle.clap.specs.Words.{App, Rule, app_of, rule_of, found_of, matches_of, rows_of, subcommand_of, subcommand_rows_of, with_rule};
+ghost use Rattle.dl_plans.specs.Options.{plans_app, plans_words_app, file_words_app, answering_app, serving_app, program_app, have_one_name, AreApart, AreGiven, GivesMost};
+ghost use Rattle.dl_plans.specs.Options.{Migrates, to_rule, workers_rule, max_answer_rule, batches_rule, explain_rule, statistics_rule, picture_rule, trace_rule, database_rule, history_rule};
 
 use crate::settings::Options;
 use clap::error::ErrorKind;
@@ -29,21 +29,7 @@ pub fn options<'a, S: AsStr>(
     ensures history { IfOk result (λ g. AreApart g.0.picture g.0.trace g.0.history) }
 {
     let mut command = command(alloc)?;
-    match read(alloc, &mut command, words) {
-        Ok(Some((options, database))) => {
-            if has_file_twice(&options.picture, &options.trace, &database)
-                || has_file_twice(&options.picture, &options.trace, &options.history)
-            {
-                return Err(out_of_files(&mut command));
-            }
-            Ok((options, database))
-        }
-        Ok(None) => Err(out_of_range(&mut command)),
-        Err(error) => match error.kind() {
-            ErrorKind::ValueValidation => Err(out_of_range(&mut command)),
-            _ => Err(error),
-        },
-    }
+    read(alloc, &mut command, words)
 }
 
 /// Whether two of the files have one name: of those that are written, and one that is read.
@@ -63,41 +49,43 @@ fn have_one_name(file: &Option<String>, other: &Option<String>) -> bool
     }
 }
 
-/// What the words give by the command line, or `None` if a number is out of range.
+/// What the words give by the command line.
 fn read<'a, S: AsStr>(
     alloc: Global,
     command: &mut Command<'a>,
     words: &'a [S],
-) -> Result<Option<(Options, Option<String>)>, Error>
+) -> Result<(Options, Option<String>), Error>
     requires { app_of command.old ≡ plans_app }
-    ensures { let texts = map S.text words.entry.now in
-        IfOk result (λ given. IfSome given (λ g. AreGiven (matches_of plans_app texts) (subcommand_of plans_app texts) g.0 g.1)) }
+    ensures given { let texts = map S.text words.entry.now in
+        IfOk result (λ g. AreGiven (matches_of plans_app texts) (subcommand_of plans_app texts) g.0 g.1) }
+    ensures apart { IfOk result (λ g. AreApart g.0.picture g.0.trace g.1) }
+    ensures history { IfOk result (λ g. AreApart g.0.picture g.0.trace g.0.history) }
 {
-    let matches = command.try_get_matches_from_mut(words)?;
-    match given(alloc, &matches) {
-        Ok(given) => Ok(given),
-        Err(error) => Err(Error::from(error)),
+    match command.try_get_matches_from_mut(words) {
+        Ok(matches) => given(alloc, command, &matches),
+        Err(error) => Err(refusal(command, error)),
     }
 }
 
-/// What the matches give, or `None` if a number is out of range.
+/// What the matches give.
 fn given(
     alloc: Global,
+    command: &mut Command<'_>,
     matches: &ArgMatches,
-) -> Result<Option<(Options, Option<String>)>, AllocError>
-    ensures { IfOk result (λ given. IfSome given (λ g. AreGiven (rows_of (found_of matches.now)) (subcommand_rows_of matches.now) g.0 g.1)) }
+) -> Result<(Options, Option<String>), Error>
+    ensures given { IfOk result (λ g. AreGiven (rows_of (found_of matches.now)) (subcommand_rows_of matches.now) g.0 g.1) }
+    ensures apart { IfOk result (λ g. AreApart g.0.picture g.0.trace g.1) }
+    ensures history { IfOk result (λ g. AreApart g.0.picture g.0.trace g.0.history) }
 {
     let workers = match matches.get_one::<u32>("workers") {
         Some(workers) if (1..=16).contains(&workers) => workers,
-        _ => return Ok(None),
+        _ => return Err(out_of_range(command)),
     };
-    let max_answer = match most_bytes(matches) {
-        Some(max_answer) => max_answer,
-        None => return Ok(None),
+    let Some(max_answer) = most_bytes(matches) else {
+        return Err(out_of_range(command));
     };
-    let migrate = match migration(matches) {
-        Some(migrate) => migrate,
-        None => return Ok(None),
+    let Some(migrate) = migration(matches) else {
+        return Err(out_of_range(command));
     };
     let database = copied(alloc, matches.get_str("database"))?;
     let options = Options {
@@ -112,7 +100,25 @@ fn given(
         migrate,
         history: copied(alloc, matches.get_str("history"))?,
     };
-    Ok(Some((options, database)))
+    apart(command, options, database)
+}
+
+/// What was given, if no two options name the same file.
+fn apart(
+    command: &mut Command<'_>,
+    options: Options,
+    database: Option<String>,
+) -> Result<(Options, Option<String>), Error>
+    ensures given { IfOk result (λ g. g ≡ (options, database)) }
+    ensures apart { IfOk result (λ g. AreApart g.0.picture g.0.trace g.1) }
+    ensures history { IfOk result (λ g. AreApart g.0.picture g.0.trace g.0.history) }
+{
+    if has_file_twice(&options.picture, &options.trace, &database)
+        || has_file_twice(&options.picture, &options.trace, &options.history)
+    {
+        return Err(out_of_files(command));
+    }
+    Ok((options, database))
 }
 
 /// The most bytes of a plan's answers, if the matches give a number, or `None` if it is out of range.
@@ -158,6 +164,14 @@ pub(crate) fn unreadable(alloc: Global) -> Error {
     match command(alloc) {
         Ok(mut command) => refused(&mut command, ErrorKind::InvalidValue, message),
         Err(error) => Error::from(error),
+    }
+}
+
+/// The error for words that clap refuses: of a number that is out of range it says the range.
+fn refusal(command: &mut Command<'_>, error: Error) -> Error {
+    match error.kind() {
+        ErrorKind::ValueValidation => out_of_range(command),
+        _ => error,
     }
 }
 
@@ -220,32 +234,45 @@ fn to<'a>(alloc: Global) -> Arg<'a>
 fn file_words<'a>(alloc: Global) -> Result<Command<'a>, AllocError>
     ensures { IfOk result (λ c. app_of c ≡ file_words_app) }
 {
-    answering_words(alloc)?
-        .arg(picture(alloc))?
-        .arg(trace(alloc))?
-        .arg(database(alloc))?
-        .arg(history(alloc))
+    let words = with(answering_words(alloc), picture(alloc));
+    let words = with(words, trace(alloc));
+    let words = with(words, database(alloc));
+    with(words, history(alloc))
 }
 
 /// The options for answering a document that name no file.
 fn answering_words<'a>(alloc: Global) -> Result<Command<'a>, AllocError>
     ensures { IfOk result (λ c. app_of c ≡ answering_app) }
 {
-    serving_words(alloc)?
-        .arg(explain(alloc))?
-        .arg(statistics(alloc))
+    let words = with(serving_words(alloc), explain(alloc));
+    with(words, statistics(alloc))
 }
 
 /// The options that say how the plans are served, and what standard output has of it.
 fn serving_words<'a>(alloc: Global) -> Result<Command<'a>, AllocError>
     ensures { IfOk result (λ c. app_of c ≡ serving_app) }
 {
+    let words = with(Ok(program(alloc)), workers(alloc));
+    let words = with(words, max_answer(alloc));
+    with(words, batches(alloc))
+}
+
+/// The command line without options.
+fn program<'a>(alloc: Global) -> Command<'a>
+    ensures { app_of result ≡ program_app }
+{
     Command::new(alloc, "plans")
         .about("Answers a document that stands on standard input")
         .no_binary_name(true)
-        .arg(workers(alloc))?
-        .arg(max_answer(alloc))?
-        .arg(batches(alloc))
+}
+
+/// These words with one option more, unless memory ran out.
+fn with<'a>(words: Result<Command<'a>, AllocError>, arg: Arg<'a>) -> Result<Command<'a>, AllocError>
+    requires { arg.global ≡ false }
+    ensures { (app : App) (rule : Rule) → rule_of arg.entry ≡ rule → IfOk words.entry (λ c. app_of c ≡ app)
+        → IfOk result (λ c. app_of c ≡ with_rule app rule) }
+{
+    words?.arg(arg)
 }
 
 /// `--workers N`.

@@ -1,13 +1,13 @@
 use Rattle.std.proofs.Common.{rules, ◌∙◌, refl, codes}
 use Rattle.clap.proofs.WalkLemmas.{first_value-rows, one_text-rows}
 use Rattle.clap.specs.Words.{found_of}
-use Rattle.dl_plans.proofs.CommandMatches.{number_given}
+use Rattle.dl_plans.proofs.CommandMatches.{number_given, were_given}
 use Rattle.dl_plans.proofs.command.given.Goals as goal
 
-pub returns : goal.returns
-returns c =
+pub returns-clause-given : goal.returns-clause-given
+returns-clause-given c =
     let found = found_of c.args.matches.now in
-    record {
+    were_given _ _ _ _ _ c.apart.ensures.given (record {
       workers = number_given found (codes "workers") c.in-Some.workers c.in-Some.ensures.none
           (λ t e. let k = c.in-Some.ensures.value t e in record { numeral = search rules; value = search rules });
       least = search rules;
@@ -25,4 +25,4 @@ returns c =
       unread = refl;
       migrate = c.in-Some-migration.ensures;
       history = c.in_ok-copied-3.ensures ∙ (c.get_str-4.ensures ∙ first_value-rows found (codes "history"));
-    }
+    })
