@@ -33,27 +33,26 @@ pub fn asked<R: Env + RandomSource + Print + Eprint + AllocGlobal + Files>(
     ensures { IfOk result (λ asked. IfSome asked.0.database IsReadFromSome) }
 {
     let (options, file) = given(rt)?;
-    let hashing = hashing(rt)?;
-    let database = database(rt, hashing, &options, &file)?;
+    let (database, hashing) = database(rt, &options, &file)?;
     Ok((options.with_database(database), hashing))
 }
 
-/// The tables of the database in this file, unless there is a document to migrate. Fails as [`asked`] does.
-fn database<R: Eprint + AllocGlobal + Files>(
+/// The tables of the database in this file, unless there is a document to migrate, and random numbers of this run to hash
+/// keys by. Fails as [`asked`] does.
+fn database<R: RandomSource + Eprint + AllocGlobal + Files>(
     rt: &R,
-    hashing: RandomState,
     options: &Options,
     file: &Option<String>,
-) -> Result<Option<Tables>, u8>
-    ensures { IfOk result (λ tables. IfSome tables IsReadFromSome) }
+) -> Result<(Option<Tables>, RandomState), u8>
+    ensures { IfOk result (λ read. IfSome read.0 IsReadFromSome) }
 {
+    let hashing = hashing(rt)?;
     match file {
-        Some(file) if options.migrate.is_none() => Ok(Some(database_tables(
-            rt,
-            hashing,
-            file.as_str(),
-        )?)),
-        _ => Ok(None),
+        Some(file) if options.migrate.is_none() => {
+            let tables = database_tables(rt, hashing, file.as_str())?;
+            Ok((Some(tables), hashing))
+        }
+        _ => Ok((None, hashing)),
     }
 }
 
