@@ -2,7 +2,7 @@
 
 ghost use Rattle.std.specs.Prelude.{◌≡◌, IfOk, IfSome, map, option_map, false, string_bytes};
 ghost use Rattle.clap.specs.Words.{App, Rule, app_of, rule_of, found_of, matches_of, rows_of, subcommand_of, subcommand_rows_of, with_rule};
-ghost use Rattle.dl_plans.specs.Options.{plans_app, plans_words_app, file_words_app, answering_app, serving_app, program_app, have_one_name, AreApart, AreGiven, GivesMost};
+ghost use Rattle.dl_plans.specs.Options.{plans_app, plans_words_app, file_words_app, program_app, have_one_name, AreApart, AreGiven, GivesMost};
 ghost use Rattle.dl_plans.specs.Options.{Migrates, to_rule, workers_rule, max_answer_rule, batches_rule, explain_rule, statistics_rule, picture_rule, trace_rule, database_rule, history_rule};
 
 use crate::settings::Options;
@@ -234,27 +234,15 @@ fn to<'a>(alloc: Global) -> Arg<'a>
 fn file_words<'a>(alloc: Global) -> Result<Command<'a>, AllocError>
     ensures { IfOk result (λ c. app_of c ≡ file_words_app) }
 {
-    let words = with(answering_words(alloc), picture(alloc));
+    let words = with(Ok(program(alloc)), workers(alloc));
+    let words = with(words, max_answer(alloc));
+    let words = with(words, batches(alloc));
+    let words = with(words, explain(alloc));
+    let words = with(words, statistics(alloc));
+    let words = with(words, picture(alloc));
     let words = with(words, trace(alloc));
     let words = with(words, database(alloc));
     with(words, history(alloc))
-}
-
-/// The options for answering a document that name no file.
-fn answering_words<'a>(alloc: Global) -> Result<Command<'a>, AllocError>
-    ensures { IfOk result (λ c. app_of c ≡ answering_app) }
-{
-    let words = with(serving_words(alloc), explain(alloc));
-    with(words, statistics(alloc))
-}
-
-/// The options that say how the plans are served, and what standard output has of it.
-fn serving_words<'a>(alloc: Global) -> Result<Command<'a>, AllocError>
-    ensures { IfOk result (λ c. app_of c ≡ serving_app) }
-{
-    let words = with(Ok(program(alloc)), workers(alloc));
-    let words = with(words, max_answer(alloc));
-    with(words, batches(alloc))
 }
 
 /// The command line without options.
