@@ -38,10 +38,7 @@ pub fn read_file<R: Files>(
     ensures { IfOk result IsReadFromSome }
 {
     let paths = paths_of(rt, alloc, path)?;
-    let first = read_both(rt, alloc, &paths)?;
-    check_journal(rt, alloc, paths.journal.as_str())?;
-    let second = read_both(rt, alloc, &paths)?;
-    read_agreed(alloc, hashing, paths.file.as_str(), &first, second)
+    read_at(rt, alloc, hashing, &paths)
 }
 
 /// The paths of a database's file, of its log and of its rollback journal.
@@ -72,16 +69,47 @@ struct Reading {
     log: Vec<u8>,
 }
 
+/// Reads all rows of the database at these paths.
+fn read_at<R: Files>(
+    rt: &R,
+    alloc: Global,
+    hashing: RandomState,
+    paths: &Paths,
+) -> Result<Tables, DatabaseFault>
+    ensures { IfOk result IsReadFromSome }
+{
+    let first = read_both(rt, alloc, paths)?;
+    let second = read_again(rt, alloc, paths)?;
+    read_agreed(alloc, hashing, paths.file.as_str(), &first, second)
+}
+
+/// Looks for a rollback journal, and reads the two again.
+fn read_again<R: Files>(rt: &R, alloc: Global, paths: &Paths) -> Result<Reading, DatabaseFault> {
+    check_journal(rt, alloc, paths.journal.as_str())?;
+    read_both(rt, alloc, paths)
+}
+
 /// Reads the file, and then its log.
 fn read_both<R: Files>(rt: &R, alloc: Global, paths: &Paths) -> Result<Reading, DatabaseFault> {
-    let Some(file) = bytes_at(rt, alloc, paths.file.as_str())? else {
-        return Err(DatabaseFault::NoFile(paths.file.clone()?));
-    };
-    let log = bytes_at(rt, alloc, paths.log.as_str())?;
-    Ok(Reading {
-        file,
-        log: log.unwrap_or(Vec::new(alloc)),
-    })
+    let file = file_bytes(rt, alloc, paths.file.as_str())?;
+    let log = log_bytes(rt, alloc, paths.log.as_str())?;
+    Ok(Reading { file, log })
+}
+
+/// The bytes of the file at this path, which must be there.
+fn file_bytes<R: Files>(rt: &R, alloc: Global, path: &str) -> Result<Vec<u8>, DatabaseFault> {
+    match bytes_at(rt, alloc, path)? {
+        Some(bytes) => Ok(bytes),
+        None => Err(DatabaseFault::NoFile(String::from_str(alloc, path)?)),
+    }
+}
+
+/// The bytes of the log at this path, which may be missing.
+fn log_bytes<R: Files>(rt: &R, alloc: Global, path: &str) -> Result<Vec<u8>, DatabaseFault> {
+    match bytes_at(rt, alloc, path)? {
+        Some(bytes) => Ok(bytes),
+        None => Ok(Vec::new(alloc)),
+    }
 }
 
 /// Rejects a rollback journal that waits to be played back. One that is empty, or begins with a zero, doesn't.
