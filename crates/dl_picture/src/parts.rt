@@ -257,24 +257,51 @@ fn push_parts(
     numbered: (u64, &Term),
     parts: &mut Vec<String>,
 ) -> Result<(), AllocError> {
+    let mut cells = IndexMap::with_hasher(alloc, hashing);
+    push_waiting(alloc, history, rounds, numbered, &mut cells, parts)
+}
+
+/// Appends what the rounds of a term load for, as long as it waits, and reads them into these cells.
+fn push_waiting(
+    alloc: Global,
+    history: &History,
+    rounds: &[Round<'_>],
+    numbered: (u64, &Term),
+    cells: &mut Cells,
+    parts: &mut Vec<String>,
+) -> Result<(), AllocError> {
     let (number, term) = numbered;
-    let mut cells: Cells = IndexMap::with_hasher(alloc, hashing);
     for place in parts.len()..rounds.len() {
-        let known = Knowledge {
-            alloc,
-            history,
-            cells: &cells,
+        let Some(round) = rounds.get(place) else {
+            return Ok(());
         };
-        match (known.waiting(term, None)?, rounds.get(place)) {
-            (Some(waiting), Some(round)) => {
-                let step = round.others.saturating_add(number);
-                parts.push(part_text(alloc, step, &waiting)?)?;
-                read_round(&mut cells, round.event)?;
-            }
-            _ => return Ok(()),
+        let step = round.others.saturating_add(number);
+        match part_waiting(alloc, history, cells, step, term)? {
+            Some(part) => parts.push(part)?,
+            None => return Ok(()),
         }
+        read_round(cells, round.event)?;
     }
     Ok(())
+}
+
+/// The text of the part of a term that waits, in the step with this number, or `None` if the term has its answer.
+fn part_waiting(
+    alloc: Global,
+    history: &History,
+    cells: &Cells,
+    step: u64,
+    term: &Term,
+) -> Result<Option<String>, AllocError> {
+    let known = Knowledge {
+        alloc,
+        history,
+        cells,
+    };
+    match known.waiting(term, None)? {
+        Some(waiting) => Ok(Some(part_text(alloc, step, &waiting)?)),
+        None => Ok(None),
+    }
 }
 
 /// The text of a step's number, the first part that waits, and how many others do.
