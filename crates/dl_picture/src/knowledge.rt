@@ -24,7 +24,7 @@ use std::hash::RandomState;
 pub(crate) const MOST_ITEMS: usize = 1_024;
 
 /// What a term knows: the cells of the keys that it has read, and the history with their outcomes.
-#[derive(Drop)]
+#[derive(Clone, Copy)]
 pub(crate) struct Knowledge<'h, 'c> {
     pub(crate) alloc: Global,
     pub(crate) history: &'h History,
@@ -297,6 +297,20 @@ impl<'h> Knowledge<'h, '_> {
         together.finish(self.alloc, None)
     }
 
+    /// What waits in the part of a term, or else the term itself, if it waits.
+    fn waiting_or(
+        &self,
+        part: Option<Waiting<'h>>,
+        term: &Term,
+        item: Option<&AnswerValue>,
+        itself: Loading<'h>,
+    ) -> Result<Option<Waiting<'h>>, AllocError> {
+        match part {
+            Some(waiting) => Ok(Some(waiting)),
+            None => self.waiting_itself(term, item, itself),
+        }
+    }
+
     /// The term itself, if it waits, and no other part.
     fn waiting_itself(
         &self,
@@ -334,14 +348,17 @@ impl<'h> Knowledge<'h, '_> {
                 None => Some(self.alone(Loading::Load(key))),
             }),
             Term::Pick { part, .. } => self.waiting(part, item),
-            Term::Follow { part, field, .. } => match self.waiting(part, item)? {
-                Some(waiting) => Ok(Some(waiting)),
-                None => self.waiting_itself(term, item, Loading::Follow(field)),
-            },
-            Term::Each { part, field, .. } => match self.waiting(part, item)? {
-                Some(waiting) => Ok(Some(waiting)),
-                None => self.waiting_itself(term, item, Loading::Each(field)),
-            },
+            Term::Follow { part, field, .. } => {
+                self.waiting_or(
+                    self.waiting(part, item)?,
+                    term,
+                    item,
+                    Loading::Follow(field),
+                )
+            }
+            Term::Each { part, field, .. } => {
+                self.waiting_or(self.waiting(part, item)?, term, item, Loading::Each(field))
+            }
             Term::Over { part, body } => match self.waiting(part, item)? {
                 Some(waiting) => Ok(Some(waiting)),
                 None => self.waiting_over(self.ask(part, item)?, body),

@@ -52,7 +52,7 @@ waiting-waiting_over-requires t c =
     let body = c.in-Over.body.value in
     let high : height_of (term_view c.args.term.now) ≡ max (height_of (term_view part)) (height_of (term_view body)) + 1 =
     ap height_of (ap term_view c.in-Over.is ∙ term_view-Over c.in-Over.part c.in-Over.body) in
-    let same : height_of (term_view c.deref-in-None-4-2.result.now) ≡ height_of (term_view body) = ap (λ x. height_of (term_view x)) c.deref-in-None-4-2.ensures in
+    let same : height_of (term_view c.deref-in-None-2-2.result.now) ≡ height_of (term_view body) = ap (λ x. height_of (term_view x)) c.deref-in-None-2-2.ensures in
     omega (arith, c.decreases)
 
 pub waiting-waiting_in-requires : goal.waiting-waiting_in-requires
