@@ -50,7 +50,7 @@ fn origins_of<'t>(
     for term in terms {
         let (_, left) = rounds.split_at(passed);
         let (origin, read) = term_origin(alloc, hashing, history, term, left)?;
-        origins.push(origin)?;
+        origins.push_reserved(origin);
         passed += read;
     }
     Ok(origins)
@@ -69,14 +69,29 @@ fn term_origin<'t>(
     ensures within { IfOk result (λ r. r.1 ≤ length rounds.now) }
 {
     let mut cells = IndexMap::with_hasher(alloc, hashing);
+    origin_read(alloc, history, &mut cells, term, rounds)
+}
+
+/// The same, by reading the rounds into these cells, of which there are none yet.
+fn origin_read<'t>(
+    alloc: Global,
+    history: &History,
+    cells: &mut Cells,
+    term: &'t Term,
+    rounds: &[&Event],
+) -> Result<(Option<Origin<'t>>, usize), AllocError>
+    requires { cells.old.entries ≡ [] }
+    ensures origin { IfOk result (λ r. HasOrigin history.now.events (term_view term.now) (map (λ e. e.now) rounds.now) r.0) }
+    ensures left { IfOk result (λ r. drop r.1 (map (λ e. e.now) rounds.now) ≡ rounds_after history.now.events (term_view term.now) [] (map (λ e. e.now) rounds.now)) }
+    ensures within { IfOk result (λ r. r.1 ≤ length rounds.now) }
+{
     for (place, round) in rounds.iter().enumerate() {
-        let ending = ending_known(alloc, history, &cells, term)?;
-        if ending.is_some() {
-            return Ok((origin_of(ending), place));
+        match ending_known(alloc, history, cells, term)? {
+            None => read_round(cells, *round)?,
+            ending => return Ok((origin_of(ending), place)),
         }
-        read_round(&mut cells, *round)?;
     }
-    let ending = ending_known(alloc, history, &cells, term)?;
+    let ending = ending_known(alloc, history, cells, term)?;
     Ok((origin_of(ending), rounds.len()))
 }
 

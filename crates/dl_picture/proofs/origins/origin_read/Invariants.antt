@@ -3,7 +3,7 @@ use Rattle.std.proofs.Common.{◌≡◌, [], drop, map}
 use Rattle.dl_terms.specs.View.{term_view}
 use Rattle.dl_picture.specs.FaultPath.{cells_in}
 use Rattle.dl_picture.specs.TermLoads.{rounds_after}
-use Rattle.dl_picture.proofs.origins.term_origin.Given as goal
+use Rattle.dl_picture.proofs.origins.origin_read.Given as goal
 
 abbrev pub invariant-loop-place : goal.invariant-loop-place
 invariant-loop-place l = record {

@@ -1,10 +1,11 @@
-use Rattle.std.proofs.Common.{◌∙◌, [], map, subst, sym}
+use Rattle.std.proofs.Common.{◌≡◌, ◌∙◌, [], Option, None, Some, true, ap, map, refl, sym}
+use Rattle.std.specs.Prelude.{is_some}
 use Rattle.dl_terms.specs.View.{term_view}
-use Rattle.dl_picture.specs.FaultPath.{cells_in, HasOrigin}
+use Rattle.dl_picture.specs.FaultPath.{cells_in}
 use Rattle.dl_picture.specs.TermLoads.{known_by, rounds_after}
 use Rattle.dl_picture.proofs.FaultRounds.{cells_end, cells_next, ends_some, origin_is, rounds_end}
 use Rattle.dl_picture.proofs.TermLoads.{waits_on}
-use Rattle.dl_picture.proofs.origins.term_origin.Goals as goal
+use Rattle.dl_picture.proofs.origins.origin_read.Goals as goal
 
 pub loop-place-preserved : goal.loop-place-preserved
 loop-place-preserved c =
@@ -15,32 +16,38 @@ loop-place-preserved c =
     let cells = c.loop-place.cells.entries in
     let x = c.index-rounds-place.result in
     let h = c.loop-place.invariant in
-    let waits = ends_some (known_by events cells) t c.in_ok-ending.ending c.in_ok-ending.ensures ∙ (sym c.is_some.ensures ∙ c.if-is_some.false) in
-    let step = waits_on events (λ e. e.now) rounds i t cells x c.loop-place-test.true c.index-rounds-place.is c.read_round.new.cells.entries waits c.in_ok-read_round.ensures in
+    let waits = ends_some (known_by events cells) t c.in_ok-ending.ending c.in_ok-ending.ensures ∙ ap is_some c.in-None.is in
+    let step = waits_on events (λ e. e.now) rounds i t cells x c.loop-place-test.true c.index-rounds-place.is c.read_round.new.cells.entries waits c.in_ok-read_round-in-None.ensures in
     record {
       cells = sym (cells_next events (λ e. e.now) rounds i t cells x c.loop-place-test.true c.index-rounds-place.is c.read_round.new.cells.entries waits
-          c.in_ok-read_round.ensures)
+          c.in_ok-read_round-in-None.ensures)
           ∙ h.cells;
       left = sym step.1 ∙ h.left;
     }
 
-pub returns-then-is_some-clause-origin : goal.returns-then-is_some-clause-origin
-returns-then-is_some-clause-origin c =
+some_if : {A : Type 0} (o : Option A) → (o ≡ None → ⊥) → is_some o ≡ true
+some_if None never = absurd (never refl)
+some_if (Some x) never = refl
+
+pub returns-in_default-clause-origin : goal.returns-in_default-clause-origin
+returns-in_default-clause-origin c =
     let events = c.args.history.now.events in
     let rounds = c.args.rounds.now in
     let t = term_view c.args.term.now in
     let cells = c.loop-place.cells.entries in
-    let ends = ends_some (known_by events cells) t c.in_ok-ending.ending c.in_ok-ending.ensures ∙ (sym c.is_some.ensures ∙ c.if-is_some.true) in
-    subst (HasOrigin events t (map (λ e. e.now) rounds)) (sym c.origin_of.ensures)
-    (origin_is events t (map (λ e. e.now) rounds) cells c.in_ok-ending.ending
+    let ending = c.in_ok-ending.ending in
+    let ends = ends_some (known_by events cells) t ending c.in_ok-ending.ensures ∙ some_if ending c.in_default.not-None in
+    rw c.origin_of.ensures
+    (origin_is events t (map (λ e. e.now) rounds) cells ending
     (cells_end events (λ e. e.now) rounds c.loop-place.place t cells ends (cells_in events t [] (map (λ e. e.now) rounds)) c.loop-place.invariant.cells)
     c.in_ok-ending.ensures)
 
-pub returns-then-is_some-clause-left : goal.returns-then-is_some-clause-left
-returns-then-is_some-clause-left c =
+pub returns-in_default-clause-left : goal.returns-in_default-clause-left
+returns-in_default-clause-left c =
     let events = c.args.history.now.events in
     let rounds = c.args.rounds.now in
     let t = term_view c.args.term.now in
     let cells = c.loop-place.cells.entries in
-    let ends = ends_some (known_by events cells) t c.in_ok-ending.ending c.in_ok-ending.ensures ∙ (sym c.is_some.ensures ∙ c.if-is_some.true) in
+    let ending = c.in_ok-ending.ending in
+    let ends = ends_some (known_by events cells) t ending c.in_ok-ending.ensures ∙ some_if ending c.in_default.not-None in
     rounds_end events (λ e. e.now) rounds c.loop-place.place t cells ends (rounds_after events t [] (map (λ e. e.now) rounds)) c.loop-place.invariant.left
