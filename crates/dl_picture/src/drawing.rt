@@ -126,15 +126,25 @@ impl Drawing {
     /// A column below what the place has. If its lines are too many, it has counts of all of them, or of all but the first.
     pub(crate) fn add_below(&mut self, column: &Column<'_>) {
         if column.is_cut() {
-            let (first, others) = column.lines.split_at(FIRST_LINES);
-            let tally = self.tally_of(others);
-            self.add_lines(&column.with_lines(first, tally.more_lines()));
+            self.add_first(column);
         } else if column.is_summed_up() {
-            let tally = self.tally_of(column.lines);
-            self.add_lines(&column.with_lines(tally.lines(), column.foot));
+            self.add_counts(column);
         } else {
             self.add_lines(column);
         }
+    }
+
+    /// The first lines of a column, and counts of the others.
+    fn add_first(&mut self, column: &Column<'_>) {
+        let (first, others) = column.lines.split_at(FIRST_LINES);
+        let tally = self.tally_of(others);
+        self.add_lines(&column.with_lines(first, tally.more_lines()));
+    }
+
+    /// A column with counts of its lines.
+    fn add_counts(&mut self, column: &Column<'_>) {
+        let tally = self.tally_of(column.lines);
+        self.add_lines(&column.with_lines(tally.lines(), column.foot));
     }
 
     /// The counts of lines.
