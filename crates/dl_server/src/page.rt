@@ -6,11 +6,13 @@ pub const PAGE: &str = r#"<!doctype html>
 <meta charset="utf-8">
 <meta name="viewport" content="width=device-width">
 <title>Plans</title>
+<link rel="icon" href="data:,">
 <style>
 body { font: 16px/1.4 sans-serif; max-width: 60em; margin: 2em auto; padding: 0 1em }
 textarea, pre { box-sizing: border-box; width: 100%; font: 14px/1.4 monospace }
 textarea { height: 14em }
 pre { white-space: pre-wrap; overflow-wrap: anywhere; background: #f3f3f3; padding: .5em }
+pre:empty { display: none }
 img { max-width: 100% }
 </style>
 <h1>Plans</h1>
