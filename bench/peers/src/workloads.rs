@@ -13,6 +13,9 @@ use std::thread;
 /// The most keys of a batch, where the words don't say it.
 const BATCH: usize = 64;
 
+/// The number of hot keys: of twenty loads of a caller, nineteen are of these.
+const HOT: u32 = 19;
+
 /// The most keys that are loaded twice on one desk, where each load begins a cell.
 const LOADED_TWICE: u32 = 32_768;
 
@@ -145,21 +148,47 @@ fn loader(counts: &mut Counts, keys: u32, batch: usize) -> Result<(), CallFault>
 }
 
 fn threads(counts: &mut Counts, keys: u32, callers: u32) -> Result<(), CallFault> {
-    let source = Alike(Arc::new(Value::Null));
     let keys = keys_of(keys);
+    at_once(counts, callers, keys.len(), |loader, pass, _| load_each(loader, pass, &keys))
+}
+
+/// Each caller loads keys of its own, and after each of these the hot ones, which all callers load.
+fn hot(counts: &mut Counts, keys: u32, callers: u32) -> Result<(), CallFault> {
+    let hot = keys_of(HOT);
+    let own: Vec<Vec<Key>> =
+        (0..callers).map(|caller| (0..keys).map(|key| key_of(HOT + caller * keys + key)).collect()).collect();
+    at_once(counts, callers, keys as usize * (1 + hot.len()), |loader, pass, caller| {
+        own[caller].iter().try_for_each(|key| {
+            loader.load(pass, key)?;
+            load_each(loader, pass, &hot)
+        })
+    })
+}
+
+/// Each caller makes so many loads on a thread of its own. After all of them the first ends what has not gone out.
+fn at_once(
+    counts: &mut Counts,
+    callers: u32,
+    loads: usize,
+    load: impl Fn(&Loader, &mut Pass, usize) -> Result<(), CallFault> + Sync,
+) -> Result<(), CallFault> {
+    let source = Alike(Arc::new(Value::Null));
     let (loader, mut passes) = Loader::start(Limits::of_batch(BATCH), callers);
     thread::scope(|scope| {
-        let (loader, keys) = (&loader, &keys);
-        let (last, others) = passes.split_last_mut().expect("a caller");
-        let threads: Vec<_> =
-            others.iter_mut().map(|pass| scope.spawn(move || load_each(loader, pass, keys))).collect();
-        load_each(loader, last, keys)?;
+        let (loader, load) = (&loader, &load);
+        let ((last, others), at) = (passes.split_last_mut().expect("a caller"), callers as usize - 1);
+        let threads: Vec<_> = others
+            .iter_mut()
+            .enumerate()
+            .map(|(caller, pass)| scope.spawn(move || load(loader, pass, caller)))
+            .collect();
+        load(loader, last, at)?;
         threads.into_iter().try_for_each(|thread| thread.join().unwrap())
     })?;
     let pass = &mut passes[0];
     let jobs = loader.dispatch(pass)?;
     loader.end_jobs(pass, &source, jobs)?;
-    close(counts, loader, passes, keys.len() * callers as usize)
+    close(counts, loader, passes, loads * callers as usize)
 }
 
 fn load_each(loader: &Loader, pass: &mut Pass, keys: &[Key]) -> Result<(), CallFault> {
@@ -189,6 +218,7 @@ fn run_of_both(counts: &mut Counts, words: &[&str]) -> Option<()> {
         ["clears", n] => clears(counts, size(n)?),
         ["loader", n, b] => loader(counts, size(n)?, size(b)? as usize).expect("room"),
         ["threads", n, c] => threads(counts, size(n)?, size(c)?).expect("room"),
+        ["hot", n, c] => hot(counts, size(n)?, size(c)?).expect("room"),
         _ => return None,
     }
     Some(())

@@ -78,13 +78,15 @@ pub(crate) enum Callers {
     One,
     /// Callers, each on a thread of its own. Each loads the keys one by one. Then the first dispatches, and settles.
     Threads,
+    /// The same, but each caller loads keys of its own, and after each of these the hot keys, which all callers load.
+    Hot,
 }
 
 /// The most keys of a batch, if neither the words nor the workload need another limit.
 const BATCH: u32 = 64;
 
 /// The word for each workload of N or of two numbers, and the most keys of its batches, if the words don't say it.
-static WORKLOADS: [(&str, Option<u32>, Workload); 13] = [
+static WORKLOADS: [(&str, Option<u32>, Workload); 14] = [
     ("loads", None, Workload::OneByOne(Ids::Short)),
     ("hostile", Some(BATCH), Workload::OneByOne(Ids::Hostile)),
     ("harmless", Some(BATCH), Workload::OneByOne(Ids::Harmless)),
@@ -105,6 +107,7 @@ static WORKLOADS: [(&str, Option<u32>, Workload); 13] = [
     ),
     ("loader", None, Workload::Shared(Callers::One)),
     ("threads", None, Workload::Shared(Callers::Threads)),
+    ("hot", None, Workload::Shared(Callers::Hot)),
     ("terms", Some(BATCH), Workload::Terms(Evaluated::One)),
 ];
 
@@ -112,16 +115,16 @@ static WORKLOADS: [(&str, Option<u32>, Workload); 13] = [
 #[derive(Clone, Copy)]
 pub(crate) struct Command {
     pub(crate) workload: Workload,
-    /// The number of keys; for `terms` of parts, and for `inline` and `serve` of rounds.
+    /// The number of keys, for `hot` of each caller; for `terms` of parts, and for `inline` and `serve` of rounds.
     pub(crate) keys: u32,
-    /// The most keys of a batch; for `threads` the number of callers.
+    /// The most keys of a batch; for `threads` and `hot` the number of callers.
     pub(crate) most: u32,
 }
 
 /// Why words aren't a command.
 #[derive(Debug, Drop, Error)]
 pub(crate) enum CommandFault {
-    #[error("usage: dl_bench loads|many|rounds|tables|loader N B, hostile|harmless[-tables] N, hits|clears|terms N, threads N C, tables-of|mixed-of T N, inline P N, or serve P W N")]
+    #[error("usage: dl_bench loads|many|rounds|tables|loader N B, hostile|harmless[-tables] N, hits|clears|terms N, threads|hot N C, tables-of|mixed-of T N, inline P N, or serve P W N")]
     Usage,
     #[error("N, B, C, P, T and W are numbers from 1 to 65536, the largest limit of a loader")]
     Size,

@@ -18,9 +18,18 @@ pub(crate) fn key_of(alloc: Global, number: u32) -> Result<FetchKey, AllocError>
 
 /// The keys of the first numbers. Fails if memory runs out.
 pub(crate) fn keys_of(alloc: Global, count: u32) -> Result<Vec<FetchKey>, AllocError> {
+    keys_from(alloc, 0, count)
+}
+
+/// The keys of this many numbers from the first one on. Fails if memory runs out.
+pub(crate) fn keys_from(
+    alloc: Global,
+    first: u32,
+    count: u32,
+) -> Result<Vec<FetchKey>, AllocError> {
     let mut keys = Vec::with_capacity(alloc, count as usize)?;
-    for number in 0..count {
-        keys.push(key_of(alloc, number)?)?;
+    for place in 0..count {
+        keys.push(key_of(alloc, first.saturating_add(place))?)?;
     }
     Ok(keys)
 }

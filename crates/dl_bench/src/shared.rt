@@ -7,25 +7,29 @@ ghost use Rattle.dl_loader.specs.Opening.{Names};
 use crate::alike::Alike;
 use crate::command::Callers;
 use crate::counts::Counts;
-use crate::keys::{keys_of, limits};
+use crate::keys::{keys_from, keys_of, limits};
 use crate::scene::Scene;
 use anyhow::Result;
-use dl_desk::{FetchKey, Limits};
+use dl_desk::{FetchKey, Keys, Limits};
 use dl_loader::{CallFault, History, Loader, LoaderName, MOST_CALLERS, Opening, Pass, end_jobs};
 use dl_source::Source;
-use std::alloc::Global;
+use std::alloc::{AllocError, Global};
 use std::marker::Brand;
 use std::sync::Wait;
-use std::thread;
 use std::thread::Threads;
+use std::{slice, thread};
 
 /// The most keys of a batch, if there are several callers.
 const BATCH: u32 = 64;
 
+/// The number of hot keys: of twenty loads of a caller, nineteen are of these.
+const HOT: u32 = 19;
+
 /// Calls of a loader over a source that answers every key `null`. It closes the loader at the end.
 ///
 /// One caller makes a round for each batch of at most `most` keys. With threads, `most` callers, each on a thread of
-/// its own, load the same keys, one by one, and after all of them the first ends what has not gone out.
+/// its own, load the same keys, one by one, or each its own keys and after each of these the hot ones. After all of
+/// them the first ends what has not gone out.
 pub(crate) fn on_loader<R: Threads + Wait + Sync>(
     scene: &Scene<'_, R>,
     counts: &mut Counts,
@@ -33,29 +37,50 @@ pub(crate) fn on_loader<R: Threads + Wait + Sync>(
     keys: u32,
     most: u32,
 ) -> Result<()> {
-    let (batch, passes) = match callers {
-        Callers::One => (most, 1),
-        Callers::Threads => (BATCH, most),
+    let (batch, passes, of_each) = match callers {
+        Callers::One => (most, 1, keys),
+        Callers::Threads => (BATCH, most, keys),
+        Callers::Hot => (BATCH, most, keys.saturating_mul(HOT.saturating_add(1))),
     };
     let limits = limits(batch)?;
-    let keys = keys_of(scene.alloc, keys)?;
-    counts.history(&called(scene, callers, &keys, limits, passes)?);
-    let loads = (keys.len() as u64).saturating_mul(u64::from(passes));
+    let lists = lists_of(scene.alloc, callers, keys, passes)?;
+    counts.history(&called(scene, callers, &lists, limits, passes)?);
+    let loads = u64::from(of_each).saturating_mul(u64::from(passes));
     counts.hits = loads.saturating_sub(counts.cells);
     Ok(())
+}
+
+/// The keys that all callers load, and if these are hot, also a list of each caller's own.
+fn lists_of(
+    alloc: Global,
+    callers: Callers,
+    keys: u32,
+    passes: u32,
+) -> Result<Vec<Keys>, AllocError> {
+    let mut lists = Vec::new(alloc);
+    let Callers::Hot = callers else {
+        lists.push(Keys::new(alloc, keys_of(alloc, keys)?)?)?;
+        return Ok(lists);
+    };
+    lists.push(Keys::new(alloc, keys_of(alloc, HOT)?)?)?;
+    for caller in 0..passes {
+        let first = caller.saturating_mul(keys).saturating_add(HOT);
+        lists.push(Keys::new(alloc, keys_from(alloc, first, keys)?)?)?;
+    }
+    Ok(lists)
 }
 
 /// The calls on a loader with this many callers, and its history.
 fn called<R: Threads + Wait + Sync>(
     scene: &Scene<'_, R>,
     callers: Callers,
-    keys: &[FetchKey],
+    lists: &[Keys],
     limits: Limits,
     passes: u32,
 ) -> Result<History> {
     let source = Alike::null(scene.alloc)?;
     let opening = Opening::new(scene.alloc, scene.hashing, &source, limits, passes)?;
-    each_call::<Brand, _, _>(scene, &source, opening, callers, keys, limits)
+    each_call::<Brand, _, _>(scene, &source, opening, callers, lists, limits)
 }
 
 /// The calls on the loader of an opening, which `L` names, and its history.
@@ -64,7 +89,7 @@ fn each_call<L: LoaderName + Send + Sync, S: Source, R: Threads + Wait + Sync>(
     source: &S,
     opening: Opening<'_, S>,
     callers: Callers,
-    keys: &[FetchKey],
+    lists: &[Keys],
     limits: Limits,
 ) -> Result<History>
     requires source { opening.source ≡ source.now }
@@ -72,8 +97,10 @@ fn each_call<L: LoaderName + Send + Sync, S: Source, R: Threads + Wait + Sync>(
 {
     let (loader, mut passes) = Loader::<L>::start(scene.alloc, opening)?;
     let called = match callers {
-        Callers::One => rounds(scene, source, &loader, &mut passes, keys, limits),
-        Callers::Threads => load_at_once(scene, source, &loader, &mut passes, keys),
+        Callers::One => rounds(scene, source, &loader, &mut passes, lists, limits),
+        Callers::Threads | Callers::Hot => {
+            load_at_once(scene, source, &loader, &mut passes, lists)
+        }
     };
     called?;
     close(scene.alloc, loader, passes)
@@ -97,13 +124,13 @@ fn rounds<L: LoaderName, S: Source, R: Wait>(
     source: &S,
     loader: &Loader<L>,
     passes: &mut [Pass<L>],
-    keys: &[FetchKey],
+    lists: &[Keys],
     limits: Limits,
 ) -> Result<(), CallFault>
     requires { Answers (S.answer source.now) L.service }
 {
-    if let Some(pass) = passes.first_mut() {
-        for part in keys.chunks(limits.max_batch() as usize) {
+    if let (Some(pass), Some(keys)) = (passes.first_mut(), lists.first()) {
+        for part in keys.as_slice().chunks(limits.max_batch() as usize) {
             round(scene, source, loader, pass, part)?;
         }
     }
@@ -130,17 +157,17 @@ fn round<L: LoaderName, S: Source, R: Wait>(
     Ok(())
 }
 
-/// Each caller loads the keys on a thread of its own. After all of them the first ends what has not gone out.
+/// Each caller loads its keys on a thread of its own. After all of them the first ends what has not gone out.
 fn load_at_once<L: LoaderName + Send + Sync, S: Source, R: Threads + Wait + Sync>(
     scene: &Scene<'_, R>,
     source: &S,
     loader: &Loader<L>,
     passes: &mut [Pass<L>],
-    keys: &[FetchKey],
+    lists: &[Keys],
 ) -> Result<(), CallFault>
     requires { Answers (S.answer source.now) L.service }
 {
-    load_by_each(scene.rt, scene.alloc, loader, passes, keys);
+    load_by_each(scene.rt, scene.alloc, loader, passes, lists);
     match passes.first_mut() {
         Some(pass) => end_all(scene, source, loader, pass),
         None => Ok(()),
@@ -162,20 +189,44 @@ fn end_all<L: LoaderName, S: Source, R: Wait>(
     end_jobs(rt, alloc, loader, source, pass, jobs)
 }
 
-/// Each caller loads the keys, one by one, on a thread of its own.
+/// Each caller loads its keys, one by one, on a thread of its own.
 fn load_by_each<L: LoaderName + Send + Sync, R: Threads + Wait + Sync>(
     rt: &R,
     alloc: Global,
     loader: &Loader<L>,
     passes: &mut [Pass<L>],
-    keys: &[FetchKey],
+    lists: &[Keys],
 ) {
     thread::for_each_mut(
         rt,
         passes,
         MOST_CALLERS as usize,
-        &|_: usize, pass: &mut Pass<L>| load_each(rt, alloc, loader, pass, keys),
+        &|at: usize, pass: &mut Pass<L>| load_share(rt, alloc, loader, pass, lists, at),
     );
+}
+
+/// Loads the keys of the first list, which all callers load. If the caller at this place has keys of its own, it loads
+/// each of these before.
+fn load_share<L: LoaderName, R: Wait>(
+    rt: &R,
+    alloc: Global,
+    loader: &Loader<L>,
+    pass: &mut Pass<L>,
+    lists: &[Keys],
+    at: usize,
+) {
+    let Some((all, own)) = lists.split_first() else {
+        return;
+    };
+    match own.get(at) {
+        Some(own) => {
+            for key in own.as_slice() {
+                load_each(rt, alloc, loader, pass, slice::from_ref(key));
+                load_each(rt, alloc, loader, pass, all.as_slice());
+            }
+        }
+        None => load_each(rt, alloc, loader, pass, all.as_slice()),
+    }
 }
 
 /// Loads the keys one by one. If a load fails, it stops the loader, so that the next call on it fails too.

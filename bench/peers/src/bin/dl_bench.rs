@@ -8,7 +8,7 @@ use peers::term::{evaluate_inline, Term};
 include!("../workloads.rs");
 
 const USAGE: &str =
-    "usage: dl_bench loads|many|rounds|tables|loader N B, hits|clears|terms N, threads N C, inline P N, or serve P W N";
+    "usage: dl_bench loads|many|rounds|tables|loader N B, hits|clears|terms N, threads|hot N C, inline P N, or serve P W N";
 
 /// The parts of a term of which there are several, and the rounds of one that is the only one.
 const PARTS: u32 = 16;

@@ -1,4 +1,4 @@
-//! Answers a document that stands on standard input, as the project's program of that name does.
+//! Answers a document on standard input, as the project's program of that name does.
 
 use clap::{value_parser, Arg, ArgAction, Command};
 use peers::document::{self, Input, BYTES};
@@ -24,7 +24,7 @@ fn options() -> Options {
         .action(ArgAction::SetTrue)
         .help("Prints the rounds and batches too, of a plan file with exactly one plan");
     let matches = Command::new("plans")
-        .about("Answers a document that stands on standard input")
+        .about("Answers a document on standard input")
         .arg(workers)
         .arg(batches)
         .get_matches();

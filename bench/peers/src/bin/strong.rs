@@ -5,5 +5,5 @@ use peers::strong as peer;
 include!("../workloads.rs");
 
 fn main() -> ExitCode {
-    run_words(run_of_both, "usage: strong loads|many|rounds|loader N B, hits|clears N, or threads N C")
+    run_words(run_of_both, "usage: strong loads|many|rounds|loader N B, hits|clears N, or threads|hot N C")
 }
