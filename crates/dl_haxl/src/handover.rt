@@ -9,7 +9,7 @@ ghost use Rattle.dl_loader.specs.Additions.{Grows, KeepsTickets};
 ghost use Rattle.dl_loader.specs.EventEffect.{WasMade};
 ghost use Rattle.dl_terms.specs.Tree.{depth_of};
 ghost use Rattle.dl_terms.specs.View.{term_view};
-ghost use Rattle.dl_queue.specs.Seats.{IsSenderOf, sent_jobs};
+ghost use Rattle.dl_workers.specs.Seats.{IsSenderOf, sent_jobs};
 ghost use Rattle.dl_haxl.specs.Rounds.{AddsAndSends, EvaluatesQueued, HandedOver, SentMore};
 ghost use Rattle.dl_haxl.specs.RunFaults.{IsRunFault};
 
@@ -18,8 +18,8 @@ use crate::fault::RunFault;
 use crate::outlet::Outlet;
 use dl_desk::Job;
 use dl_loader::{GiveUp, Loader, LoaderName, Pass};
-use dl_queue::{JobQueue, Sender};
 use dl_terms::{Answer, Term};
+use dl_workers::{JobQueue, Sender};
 use std::alloc::Global;
 use std::hash::RandomState;
 use std::sync::Wait;

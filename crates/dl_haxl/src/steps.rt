@@ -4,7 +4,7 @@ ghost use Rattle.std.specs.Prelude.{◌≡◌, ◌+◌, ◌^◌, ◌<◌, ◌∷
 ghost use Rattle.dl_desk.specs.declared.event.Call.TheVariants.{Prime};
 ghost use Rattle.dl_desk.specs.declared.event.Reply.{Reply};
 ghost use Rattle.dl_loader.specs.Additions.{Adds, Grows, KeepsTickets, call_entry};
-ghost use Rattle.dl_queue.specs.Seats.{IsSenderOf, sent_jobs};
+ghost use Rattle.dl_workers.specs.Seats.{IsSenderOf, sent_jobs};
 ghost use Rattle.dl_haxl.specs.PlanEntries.{FollowsAndSends, IsStep, stretch};
 ghost use Rattle.dl_haxl.specs.Inside.StepsSoFar.{answers_of, rounds_of};
 ghost use Rattle.dl_haxl.specs.Rounds.{AddsAndSends, SentMore};
@@ -15,8 +15,8 @@ use crate::fault::RunFault;
 use crate::step_answers::{StepAnswer, StepAnswers};
 use dl_desk::{FetchKey, Outcome};
 use dl_loader::{Loader, LoaderName, Pass, PrimeReply};
-use dl_queue::{JobQueue, Sender};
 use dl_terms::{Answer, Room, Step};
+use dl_workers::{JobQueue, Sender};
 use std::alloc::{AllocError, Global};
 use std::hash::RandomState;
 use std::sync::Wait;

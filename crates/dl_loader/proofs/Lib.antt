@@ -19,3 +19,4 @@ pub mod Closures
 pub mod JobEnds
 pub mod EndEntries
 mod SerialLemmas
+pub mod JobNow

@@ -51,7 +51,7 @@ begun_next rs i n m d r low before is more =
     let longer : take (i + 1) rs ≡ take i rs ++ r ∷ [] = take_more rs i d low ∙ ap (λ (x : LoadReply). take i rs ++ x ∷ []) is in
     rw (longer, begun-snoc (take i rs) r, more, before) refl
 
--- a load begins as many cells as its reply tells
+-- a load begins as many cells as its reply says
 load_begins : (k : Key) (r : LoadReply) (n : ℕ) → count_cell (begins (atom.Load k r)) n ≡ n + begun_by r
 load_begins k (Hit c) n = omega arith
 load_begins k (Fresh c b) n = omega arith
@@ -130,7 +130,7 @@ primed_fits rules history k c old is before none =
 
 -- ---- any call
 
--- a load alone begins as many as its reply tells
+-- a load alone begins as many as its reply says
 one_begun : (r : LoadReply) → cells_begun (r ∷ []) ≡ begun_by r
 one_begun r = let one = sum_by-cons begun_by r [] in omega arith
 
@@ -139,7 +139,7 @@ prime_begins : (k : Key) (old new : BatchBook) (h : List Atom) (r : DeskPrime) �
 prime_begins k old new h (prime.Primed c) is before now = primed_count h k c old new is before now
 prime_begins k old new h prime.Kept is before now = let same = kept_count h k old new is before now in omega arith
 
--- a call begins as many cells as its reply tells
+-- a call begins as many cells as its reply says
 pub begun_by_reply : (rules : Rules) (h : List Atom) (call : Call) (old new : BatchBook) → StandsFor old h → StandsFor new (after rules h (call_of call))
     → new.cells ≡ old.cells + begun_in (reply_to rules h call)
 begun_by_reply rules h (Load k) old new before now =

@@ -89,7 +89,7 @@ may_stand e may reply made = record { kept = may.kept; room = may.room; next = r
 abbrev pub grown : LoaderState → Event → BatchBook → List Cell → LoaderState
 grown seen e new ys = loader_state (seen.history ++ e ∷ []) new ys
 
--- the cells that were begun are those that the history tells
+-- the cells that were begun are those that the history has
 pub begun_cells : {s : Service} {seen : LoaderState} → IsLoaderState s seen → length seen.cells ≡ cells (atoms (past seen.history))
 begun_cells keeps = keeps.all_cells ∙ keeps.desk.cells
 

@@ -20,4 +20,6 @@ pub mod CloseRefusals
 pub mod JobEnd
 pub mod Dispatches
 pub mod SerialLoader
+pub mod HostSource
+pub mod HostJobs
 pub mod Inside

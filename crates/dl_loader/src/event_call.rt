@@ -38,13 +38,13 @@ pub(crate) trait EventCall {
     /// What the desk replies.
     type Reply: Drop;
 
-    // The call that the history tells.
+    // The call that the history has.
     ghost call: { Self → Call };
 
     // The job that it ends, if it ends one.
     ghost job: { Self → Option Job } = { λ _. None };
 
-    // The reply that the history tells.
+    // The reply that the history has.
     ghost told: { Self.Reply → Reply };
 
     // The answer that it brings, if it brings one, is allowed.

@@ -17,8 +17,8 @@ use Rattle.dl_c_values.specs.declared.answers.Dispatched.{Dispatched}
 use Rattle.dl_c_values.specs.declared.key_texts.KeyTexts.{KeyTexts}
 use Rattle.dl_c_values.specs.Answers.{member_as, refused_as, sent_as, none_sent}
 use Rattle.dl_loader_c.specs.Calls.{IsCallFault, Makes}
-use Rattle.dl_host.specs.HostSource.{mark}
-use Rattle.dl_host.specs.Jobs.{job_now}
+use Rattle.dl_loader.specs.HostSource.{mark}
+use Rattle.dl_loader.specs.HostJobs.{job_now}
 use Rattle.dl_c_values.specs.Keys.{Spells}
 
 -- the answer to a dispatch: the batches that it sends stand in a row

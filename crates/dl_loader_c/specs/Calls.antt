@@ -22,7 +22,7 @@ use Rattle.dl_loader_c.specs.declared.answers.LoadTicket.{LoadTicket}
 use Rattle.dl_loader_c.specs.Answers.{ticket_as, no_ticket, primed_as}
 use Rattle.dl_c_values.specs.Answers.{refused_as}
 use Rattle.dl_loader_c.specs.Codes.{call_code}
-use Rattle.dl_host.specs.HostSource.{mark}
+use Rattle.dl_loader.specs.HostSource.{mark}
 use Rattle.dl_c_values.specs.Keys.{IsKeyFault}
 
 -- A call of a caller is made, and answered as the history so far says.

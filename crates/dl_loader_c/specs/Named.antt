@@ -8,7 +8,7 @@ use Rattle.dl_desk.specs.Service.{Service, service}
 use Rattle.dl_history.specs.CellNames.{CellNames, no_cells}
 use Rattle.dl_history.specs.declared.name.LoaderName as name
 use Rattle.std.specs.declared.sync.ledger.Ledger as ledger
-use Rattle.dl_host.specs.HostSource.{by_marks}
+use Rattle.dl_loader.specs.HostSource.{by_marks}
 
 pub record Named : Type 0 where
   pub cells : CellNames

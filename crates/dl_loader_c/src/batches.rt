@@ -1,11 +1,11 @@
 //! The calls on batches: you dispatch them, read what they have, and end them.
 
 ghost use Rattle.std.specs.Prelude.{◌≡◌};
+ghost use Rattle.dl_loader.specs.HostSource.{by_marks};
 ghost use Rattle.dl_c_values.specs.Answers.{none_sent, refused_as};
 ghost use Rattle.dl_loader_c.specs.Batches.{AnswersDispatch, AnswersEnd, AnswersMember, failed, settled};
 ghost use Rattle.dl_loader_c.specs.Contents.{OnLoader};
 ghost use Rattle.dl_loader_c.specs.Handles.{OnClosed, OnOpen, Stays};
-ghost use Rattle.dl_host.specs.HostSource.{by_marks};
 ghost use Rattle.dl_loader_c.specs.Named.{IsHosted, named_by};
 
 use crate::codes::call_code;
@@ -14,8 +14,7 @@ use dl_c_values::answers::{Dispatched, Loaded};
 use dl_c_values::box_parts::BoxParts;
 use dl_c_values::codes::{CLOSED, DONE, NO_BATCH, NO_CALLER, NO_MEMBER, OUT_OF_MEMORY};
 use dl_c_values::key_texts::KeyTexts;
-use dl_host::{HostSource, job_of};
-use dl_loader::{GiveUp, LoaderName, SerialLoader};
+use dl_loader::{GiveUp, HostSource, LoaderName, SerialLoader, job_of};
 use dl_source::fetch_job;
 use std::alloc::Global;
 use std::marker::Brand;

@@ -18,8 +18,7 @@ use dl_c_values::box_parts::BoxParts;
 use dl_c_values::codes::{CLOSED, DONE, NO_CALLER, OUT_OF_MEMORY};
 use dl_c_values::key_texts::key_of;
 use dl_desk::FetchKey;
-use dl_host::mark;
-use dl_loader::{LoaderName, SerialLoader};
+use dl_loader::{LoaderName, SerialLoader, mark};
 use std::alloc::Global;
 use std::marker::Brand;
 

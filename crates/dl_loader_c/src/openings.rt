@@ -3,9 +3,9 @@
 ghost use Rattle.std.specs.Prelude.{◌≡◌, ◌<◌, false, None, IfErr, IfOk};
 ghost use Rattle.dl_values.specs.Answering.{function};
 ghost use Rattle.dl_values.specs.Limits.{mixed};
+ghost use Rattle.dl_loader.specs.HostSource.{answer_of};
 ghost use Rattle.dl_loader.specs.Opening.{Names};
 ghost use Rattle.dl_c_values.specs.declared.codes.TheConstants.{DONE};
-ghost use Rattle.dl_host.specs.HostSource.{answer_of};
 ghost use Rattle.dl_loader_c.specs.Lives.{AnswersOpen, AreNew, AreRulesOf, IsByTableFault, IsNew, IsOpenFault, limits_of};
 ghost use Rattle.dl_loader_c.specs.Named.{IsHosted, named_by};
 
@@ -17,8 +17,7 @@ use dl_c_values::codes::{BAD_LIMIT, DONE, OPEN, OUT_OF_MEMORY};
 use dl_c_values::seed::hashing;
 use dl_c_values::tables::{NamedLimit, limits_of_tables};
 use dl_desk::Limits;
-use dl_host::HostSource;
-use dl_loader::{LoaderName, Opening, SerialLoader};
+use dl_loader::{HostSource, LoaderName, Opening, SerialLoader};
 use std::alloc::Global;
 use std::marker::Brand;
 

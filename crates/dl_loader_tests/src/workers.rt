@@ -1,4 +1,4 @@
-//! The job queue of `dl_queue` and the fetch workers of `dl_workers`: worked rows of calls on one thread, exchanges of
+//! The job queue and the fetch workers of `dl_workers`: worked rows of calls on one thread, exchanges of
 //! jobs between many threads, and a worker that ends the jobs of a caller.
 
 mod exchanges;

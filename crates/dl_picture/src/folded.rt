@@ -16,7 +16,7 @@ const MOST_COLUMNS: usize = 240;
 
 const MOST_PLACES: usize = 60;
 
-/// How many rounds or dispatches a column stands for in lanes of which the longest has this many.
+/// How many rounds or dispatches a column has in lanes of which the longest has this many.
 pub(crate) fn rounds_a_column(lanes: u32, rounds: usize) -> usize {
     let places = (MOST_COLUMNS / (lanes as usize).max(1)).min(MOST_PLACES);
     (rounds / places.max(1)).saturating_add(1)

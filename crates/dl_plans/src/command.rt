@@ -250,7 +250,7 @@ fn program<'a>(alloc: Global) -> Command<'a>
     ensures { app_of result ≡ program_app }
 {
     Command::new(alloc, "plans")
-        .about("Answers a document that stands on standard input")
+        .about("Answers a document on standard input")
         .no_binary_name(true)
 }
 

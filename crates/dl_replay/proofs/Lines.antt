@@ -1,4 +1,4 @@
--- What a host tells of an event, and of all events so far.
+-- What a host says of an event, and of all events so far.
 use Rattle.std.proofs.Common.{◌≡◌, ◌∙◌, sym, ℕ, zero, suc, ◌+◌, List, [], ◌∷◌, ◌++◌, length, map, take, Option, Some, None, slice_get, refl, ap, inr, arith}
 use Rattle.std.proofs.lemmas.List.{map-append, take_all}
 use Rattle.dl_loader.specs.Book.{Keeps}

@@ -1,4 +1,4 @@
--- What a host tells of each call, found from a JSON tree: a list with a list of whole numbers for each call, of which the first is the
+-- What a host says of each call, found from a JSON tree: a list with a list of whole numbers for each call, of which the first is the
 -- caller and the others are the answer.
 use Rattle.std.specs.Prelude.{ℕ, List, [], ◌∷◌, Option, Some, None, option_and_then}
 use Rattle.serde_json.specs.Data.{Data, Items, no_items, item}

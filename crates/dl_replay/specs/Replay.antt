@@ -1,4 +1,4 @@
--- The events that a host tells, made again one after another on a loader, and why what it tells is no history.
+-- The events of a host, made again one after another on a loader, and why what it says is no history.
 use Rattle.std.specs.Prelude.{◌≡◌, ℕ, ◌≤◌, ◌⊎◌, List, [], ◌∷◌, ◌++◌, length, map, take, slice_get, Option, Some, None, Bool}
 use Rattle.dl_values.specs.Limits.{Rules}
 use Rattle.dl_values.specs.declared.job.Job.{Job}
@@ -15,8 +15,8 @@ use Rattle.dl_history.specs.declared.fault.CloseFault.{CloseFault}
 use Rattle.dl_loader.specs.Book.{Keeps}
 use Rattle.dl_loader.specs.CloseRefusals.{RefusesClose}
 use Rattle.dl_loader.specs.SerialLoader.{Serial, IsRefused}
-use Rattle.dl_host.specs.HostSource.{by_marks}
-use Rattle.dl_host.specs.Jobs.{job_now}
+use Rattle.dl_loader.specs.HostSource.{by_marks}
+use Rattle.dl_loader.specs.HostJobs.{job_now}
 use Rattle.dl_replay.specs.Told.{Line, line, line_of, lines}
 use Rattle.dl_replay.specs.declared.fault.Wrong.{Wrong}
 use Rattle.dl_replay.specs.declared.fault.Wrong.TheVariants.{Caller, Refused, Answer}
@@ -30,7 +30,7 @@ use Rattle.dl_replay.specs.declared.told.Told.{Told}
 abbrev pub IsForHosts : Service → Type 0
 IsForHosts service = Answers by_marks service
 
--- the call is made, and this line tells its event, the last of the history
+-- the call is made, and this line has its event, the last of the history
 pub record MakesLine (l : Line) (old new : Serial) : Type 0 where
   pub event : Event
   pub told : line_of event ≡ l

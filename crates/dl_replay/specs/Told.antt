@@ -1,4 +1,4 @@
--- What a host tells of its history: each event without what it gives to cells, and its answer in numbers.
+-- What a host says of its history: each event without what it gives to cells, and its answer in numbers.
 use Rattle.std.specs.Prelude.{ℕ, List, [], ◌∷◌, map, flat_map}
 use Rattle.dl_values.specs.declared.job.Job.{Job}
 use Rattle.dl_desk.specs.Legal.{call_of}
@@ -27,7 +27,7 @@ answer_numbers Kept = 0 ∷ 0 ∷ 0 ∷ []
 answer_numbers Done = []
 answer_numbers (Sent js) = map batch_of js
 
--- what a host tells of an event
+-- what a host says of an event
 pub record Line : Type 0 where
   pub caller : ℕ
   pub call : DeskCall

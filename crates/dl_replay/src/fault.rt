@@ -1,10 +1,10 @@
-//! Why what a host tells is no history.
+//! Why what a host says is no history.
 
 use dl_documents::PlanFault;
 use dl_history::{CallFault, CloseFault};
 use thiserror::Error;
 
-/// Why an event that a host tells can't come where it does.
+/// Why an event of a host can't come where it does.
 #[derive(Clone, Copy, Debug, PartialEq, Eq, Error)]
 pub enum Wrong {
     /// There is no such caller.
@@ -18,7 +18,7 @@ pub enum Wrong {
     Answer,
 }
 
-/// Why what a host tells is no history: the first event that can't come where it does, or else how it ends.
+/// Why what a host says is no history: the first event that can't come where it does, or else how it ends.
 #[derive(Clone, Copy, Debug, PartialEq, Eq, Error)]
 pub enum ReplayFault {
     /// The event of this number is wrong, and those before it aren't.

@@ -1,4 +1,4 @@
-//! The calls that a host tells, made on a loader: each gives its answer in numbers.
+//! The calls of a host, made again on a loader: each gives its answer in numbers.
 
 ghost use Rattle.std.specs.Prelude.{◌≡◌, ◌<◌, length, IfErr, IfOk};
 ghost use Rattle.dl_desk.specs.declared.call.DeskCall.TheVariants as asked;
@@ -7,8 +7,7 @@ ghost use Rattle.dl_replay.specs.Replay.{IsCallRefused, IsForHosts, MakesLine, l
 use crate::answer::{loaded, primed, sent};
 use dl_desk::{DeskCall, FetchKey};
 use dl_history::CallFault;
-use dl_host::{HostSource, job_of, mark};
-use dl_loader::{GiveUp, LoaderName, SerialLoader};
+use dl_loader::{GiveUp, HostSource, LoaderName, SerialLoader, job_of, mark};
 use dl_source::fetch_job;
 use std::alloc::Global;
 

@@ -1,4 +1,4 @@
-//! Reads what a host tells of each call.
+//! Reads what a host says of each call.
 
 ghost use Rattle.std.specs.Prelude.{◌≡◌, IfOk, map, option_map};
 ghost use Rattle.serde_json.specs.View.{items_view, view};

@@ -5,8 +5,8 @@ ghost use Rattle.dl_values.specs.Answering.{function};
 ghost use Rattle.dl_values.specs.Limits.{rules_by};
 ghost use Rattle.dl_desk.specs.Service.{Service};
 ghost use Rattle.dl_history.specs.ClosedHistory.{IsHistory};
+ghost use Rattle.dl_loader.specs.HostSource.{answer_of};
 ghost use Rattle.dl_loader.specs.Opening.{Names};
-ghost use Rattle.dl_host.specs.HostSource.{answer_of};
 ghost use Rattle.dl_loader.specs.Book.{Keeps};
 ghost use Rattle.dl_replay.specs.Replay.{HasMade, IsForHosts, IsReplayFault, IsWrong, MakesLine};
 ghost use Rattle.dl_replay.specs.Told.{line, line_of, lines};
@@ -16,14 +16,13 @@ use crate::host_call::make;
 use crate::told::Told;
 use dl_desk::{DeskCall, Limits, TableLimits};
 use dl_history::{CallFault, CloseFault, History, StartFault};
-use dl_host::HostSource;
-use dl_loader::{LoaderName, MOST_CALLERS, Opening, SerialLoader};
+use dl_loader::{HostSource, LoaderName, MOST_CALLERS, Opening, SerialLoader};
 use std::alloc::Global;
 use std::hash::RandomState;
 use std::marker::Brand;
 
-/// Makes the calls that a host tells on a loader with these limits, and closes it: you get its history, in which each event
-/// is answered as the host tells it. A mark is in it for each outcome, since the host has those. `hashing` hashes keys, and
+/// Makes the calls of a host again on a loader with these limits, and closes it: you get its history, in which each event
+/// is answered as the host says it. A mark is in it for each outcome, since the host has those. `hashing` hashes keys, and
 /// nothing that you see depends on it.
 ///
 /// # Errors

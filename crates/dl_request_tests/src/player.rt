@@ -5,7 +5,7 @@
 ghost use Rattle.std.specs.Prelude.{◌≡◌, All, length};
 ghost use Rattle.dl_desk.specs.Service.{Answers};
 ghost use Rattle.dl_loader.specs.Opening.{Names};
-ghost use Rattle.dl_queue.specs.Seats.{IsSenderOf, IsTakerOf};
+ghost use Rattle.dl_workers.specs.Seats.{IsSenderOf, IsTakerOf};
 
 use crate::stage::Stage;
 use dl_desk::{FetchKey, Limits};
@@ -159,7 +159,7 @@ impl<
         match turn.by {
             By::Itself => {
                 let given = self.evaluate(passes, turn.term);
-                self.stage.is_own(&given, turn);
+                self.stage.assert_given(&given, turn);
             }
             By::WithFuture => self.evaluate_with_future(passes, turn),
             By::Worker | By::Nobody => self.hand_over(passes, turn),
@@ -179,7 +179,8 @@ impl<
         let mut load = LoadFuture::new(ticket.expect(rt, "no ticket"));
         self.assert_poll(&task, &mut load, "pending");
         let given = self.evaluate(passes, turn.term);
-        if self.stage.is_own(&given, turn) {
+        self.stage.assert_given(&given, turn);
+        if !given.is_refused() {
             self.assert_poll(&task, &mut load, ADA);
             self.assert_poll(&task, &mut load, "Finished");
         }
@@ -210,7 +211,7 @@ impl<
         };
         let finished = queue.finish(rt, caller.seats, worker.seats);
         let given = caller.given.expect(rt, "no answer");
-        self.stage.is_own(&given, turn);
+        self.stage.assert_given(&given, turn);
         assert_is!(rt, &finished, &tally, turn.answer);
         assert_is!(rt, &worker.end, &Some(turn.end), turn.answer);
         passes.push(caller.pass).expect(rt, "no room");
@@ -318,16 +319,20 @@ impl<R: Abort + Eprint> Stage<'_, R> {
         }
     }
 
-    /// Whether an evaluation gave what its turn says. If not, the library refused it a growth, and it gave what it may
-    /// give then.
-    fn is_own(&self, given: &Given, turn: &Turn<'_>) -> bool {
-        let text = given.text.as_str();
-        if given.was_refused && FAILED.iter().any(|other| *other == text) {
-            return false;
+    /// An evaluation gave what its turn says, or what it may give if the library was refused a growth.
+    fn assert_given(&self, given: &Given, turn: &Turn<'_>) {
+        if !given.is_refused() {
+            assert_is!(self.rt, &given.text.as_str(), &turn.answer, turn.answer);
+            assert_is!(self.rt, &given.rounds, &turn.rounds, turn.answer);
         }
-        assert_is!(self.rt, &text, &turn.answer, turn.answer);
-        assert_is!(self.rt, &given.rounds, &turn.rounds, turn.answer);
-        true
+    }
+}
+
+impl Given {
+    /// Whether the library was refused a growth, and the evaluation gave what it may give then.
+    fn is_refused(&self) -> bool {
+        let text = self.text.as_str();
+        self.was_refused && FAILED.iter().any(|other| *other == text)
     }
 }
 

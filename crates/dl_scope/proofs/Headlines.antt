@@ -9,7 +9,7 @@ use Rattle.dl_desk.specs.Service.{Service}
 use Rattle.dl_history.specs.Accounts.{account_of, accounts_of}
 use Rattle.dl_loader.specs.CloseRefusals.{IsLeastOf}
 use Rattle.dl_loader.specs.Pass.{Trace, Pass}
-use Rattle.dl_queue.specs.declared.queue.Tally.{Tally}
+use Rattle.dl_workers.specs.declared.queue.Tally.{Tally}
 use Rattle.dl_scope.specs.Faults.{MayServe, RefusedAs}
 use Rattle.dl_haxl.specs.PlanEntries.{Follows}
 use Rattle.dl_scope.specs.Headline.{Headline, HeadlineBut, TellsEnd}

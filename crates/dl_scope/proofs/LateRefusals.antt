@@ -10,7 +10,7 @@ use Rattle.dl_loader.specs.Book.{Keeps, Book}
 use Rattle.dl_loader.specs.CloseRefusals.{RefusesClose}
 use Rattle.dl_loader.specs.Pass.{Trace, Pass, new_traces}
 use Rattle.dl_history.specs.declared.fault.CloseFault.{CloseFault}
-use Rattle.dl_queue.specs.declared.queue.JobQueue.{JobQueue}
+use Rattle.dl_workers.specs.declared.queue.JobQueue.{JobQueue}
 use Rattle.dl_workers.specs.declared.worker.WorkerEnd.{WorkerEnd}
 use Rattle.dl_haxl.specs.RunFaults.{IsRunFault}
 use Rattle.dl_haxl.specs.declared.fault.RunFault.{RunFault}

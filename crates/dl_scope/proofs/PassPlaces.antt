@@ -11,8 +11,8 @@ use Rattle.dl_history.specs.Lists.{Every}
 use Rattle.dl_desk.specs.Service.{Service}
 use Rattle.dl_loader.specs.Additions.{Adds}
 use Rattle.dl_loader.specs.Pass.{Trace, trace, Pass, new_traces}
-use Rattle.dl_queue.specs.Seats.{sent_jobs, taken_jobs}
-use Rattle.dl_queue.specs.declared.queue.JobQueue.{JobQueue}
+use Rattle.dl_workers.specs.Seats.{sent_jobs, taken_jobs}
+use Rattle.dl_workers.specs.declared.queue.JobQueue.{JobQueue}
 use Rattle.dl_haxl.specs.PlanEntries.{Follows, FollowsAndSends}
 use Rattle.dl_haxl.specs.Rounds.{AddsAndSends}
 use Rattle.dl_scope.specs.Headline.{TellsEnd}

@@ -5,10 +5,10 @@ use Rattle.std.proofs.lemmas.List.{length-map}
 use Rattle.std.proofs.lemmas.List.Elements.{All-from_recursion, All-append, All-cons, All-nil, All-same}
 use Rattle.std.proofs.lemmas.Slice.Zip.{AllZip-long}
 use Rattle.dl_desk.specs.Service.{Service}
-use Rattle.dl_queue.specs.Seats.{AreSeatsOf, IsSenderOf, IsTakerOf}
-use Rattle.dl_queue.specs.declared.queue.JobQueue.{JobQueue}
-use Rattle.dl_queue.specs.declared.seats.Sender.{Sender}
-use Rattle.dl_queue.specs.declared.seats.Taker.{Taker}
+use Rattle.dl_workers.specs.Seats.{AreSeatsOf, IsSenderOf, IsTakerOf}
+use Rattle.dl_workers.specs.declared.queue.JobQueue.{JobQueue}
+use Rattle.dl_workers.specs.declared.seats.Sender.{Sender}
+use Rattle.dl_workers.specs.declared.seats.Taker.{Taker}
 use Rattle.dl_scope.specs.Inside.ThreadRuns.{IsPlanRun, IsWorkerRun}
 use Rattle.dl_scope.specs.declared.threads.tasks.PlanTask.{PlanTask}
 use Rattle.dl_scope.specs.declared.threads.runs.PlanRun.{PlanRun}

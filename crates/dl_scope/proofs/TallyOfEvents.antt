@@ -10,7 +10,7 @@ use Rattle.dl_desk.specs.Service.{Service}
 use Rattle.dl_desk.specs.declared.event.Event.{Event}
 use Rattle.dl_loader.specs.Pass.{Trace}
 use Rattle.dl_loader.specs.Dispatches.{dispatched, dispatched_by, events_told, unsent, unsent_by}
-use Rattle.dl_queue.specs.declared.queue.Tally.{Tally}
+use Rattle.dl_workers.specs.declared.queue.Tally.{Tally}
 use Rattle.dl_scope.specs.Headline.{calls_after}
 use Rattle.dl_scope.specs.Inside.ServedPlans.{IsCounted}
 use Rattle.dl_scope.proofs.CallTotals.{calls_total, long_each, total-map, total_told}

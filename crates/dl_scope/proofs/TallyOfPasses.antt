@@ -8,14 +8,14 @@ use Rattle.std.proofs.lemmas.Bool.Decides.{nat_tests}
 use Rattle.dl_history.specs.Lists.{total}
 use Rattle.dl_desk.specs.Service.{Service}
 use Rattle.dl_loader.specs.Pass.{Trace, trace, Pass, new_traces}
-use Rattle.dl_queue.specs.Balance.{Balances}
-use Rattle.dl_queue.specs.Seats.{sent_jobs, taken_jobs}
+use Rattle.dl_workers.specs.Balance.{Balances}
+use Rattle.dl_workers.specs.Seats.{sent_jobs, taken_jobs}
 use Rattle.dl_loader.specs.Dispatches.{dispatched, events_told, unsent}
 use Rattle.dl_workers.specs.WorkerResult.{EndedEach, Worked}
-use Rattle.dl_queue.specs.declared.queue.JobQueue.{JobQueue}
-use Rattle.dl_queue.specs.declared.queue.Tally.{Tally}
-use Rattle.dl_queue.specs.declared.seats.Sender.{Sender}
-use Rattle.dl_queue.specs.declared.seats.Taker.{Taker}
+use Rattle.dl_workers.specs.declared.queue.JobQueue.{JobQueue}
+use Rattle.dl_workers.specs.declared.queue.Tally.{Tally}
+use Rattle.dl_workers.specs.declared.seats.Sender.{Sender}
+use Rattle.dl_workers.specs.declared.seats.Taker.{Taker}
 use Rattle.dl_workers.specs.declared.worker.WorkerEnd.{WorkerEnd}
 use Rattle.dl_loader.proofs.EndEntries.{TellEnds, ended_adds, tell_ends}
 use Rattle.dl_haxl.specs.PlanEntries.{FollowsAndSends}

@@ -11,10 +11,10 @@ use Rattle.dl_loader.specs.contracts.loader.Loader as Loader
 use Rattle.dl_history.specs.contracts.pass.Pass as Pass
 use Rattle.dl_history.proofs.pass.Pass.TheSendSync as pass
 use Rattle.dl_loader.proofs.ThreadSafety.{Loader-sync}
-use Rattle.dl_queue.specs.contracts.queue.JobQueue as JobQueue
-use Rattle.dl_queue.proofs.queue.JobQueue.TheSendSync as queue
-use Rattle.dl_queue.specs.contracts.seats.Sender as Sender
-use Rattle.dl_queue.proofs.seats.Sender.TheSendSync as sender
+use Rattle.dl_workers.specs.contracts.queue.JobQueue as JobQueue
+use Rattle.dl_workers.proofs.queue.JobQueue.TheSendSync as queue
+use Rattle.dl_workers.specs.contracts.seats.Sender as Sender
+use Rattle.dl_workers.proofs.seats.Sender.TheSendSync as sender
 use Rattle.dl_haxl.proofs.fault.RunFault.TheSendSync as fault
 use Rattle.dl_scope.specs.contracts.threads.tasks.PlanTask as PlanTask
 use Rattle.dl_scope.specs.contracts.threads.runs.PlanRun as PlanRun

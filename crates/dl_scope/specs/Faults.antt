@@ -13,7 +13,7 @@ use Rattle.dl_history.specs.declared.fault.CloseFault.{CloseFault}
 use Rattle.dl_history.specs.declared.fault.StartFault.TheVariants as start
 use Rattle.dl_terms.specs.Plans.{ArePlans, most_plans}
 use Rattle.dl_terms.specs.declared.plan.Plan.{Plan}
-use Rattle.dl_queue.specs.QueueFaults as queue
+use Rattle.dl_workers.specs.QueueFaults as queue
 use Rattle.dl_workers.specs.declared.worker.WorkerEnd.{WorkerEnd}
 use Rattle.dl_workers.specs.declared.worker.WorkerEnd.TheVariants as end
 use Rattle.dl_scope.specs.Headline.{HeadlineBut}

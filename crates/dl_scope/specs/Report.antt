@@ -1,7 +1,7 @@
 -- What contracts see of a report.
 use Rattle.std.specs.Prelude.{ℕ, List}
 use Rattle.dl_history.specs.ClosedHistory.{History}
-use Rattle.dl_queue.specs.declared.queue.Tally.{Tally}
+use Rattle.dl_workers.specs.declared.queue.Tally.{Tally}
 use Rattle.dl_haxl.specs.declared.step_answers.StepAnswer.{StepAnswer}
 
 -- for each plan the answers of its terms and the number of its rounds, and for all plans the history and the tally of

@@ -7,7 +7,7 @@
 ghost use Rattle.std.specs.Prelude.{◌≡◌, [], All, IfOk};
 ghost use Rattle.std.specs.List.{AllZip};
 ghost use Rattle.dl_desk.specs.Service.{Answers};
-ghost use Rattle.dl_queue.specs.Seats.{IsSenderOf, IsTakerOf};
+ghost use Rattle.dl_workers.specs.Seats.{IsSenderOf, IsTakerOf};
 ghost use Rattle.dl_scope.specs.Inside.ThreadRuns.{IsPlanRun, IsWorkerRun, SendsNothing};
 
 mod plans;

@@ -3,13 +3,14 @@
 ghost use Rattle.std.specs.Prelude.{◌≡◌, ◌⊎◌, ◌++◌, MatchBool, length};
 ghost use Rattle.dl_desk.specs.Service.{Answers};
 ghost use Rattle.dl_loader.specs.JobEnd.{WasEnded};
-ghost use Rattle.dl_queue.specs.Seats.{HasEnded, IsTakerOf, taken_jobs};
+ghost use Rattle.dl_workers.specs.Seats.{HasEnded, IsTakerOf, taken_jobs};
 ghost use Rattle.dl_workers.specs.WorkerResult.{Took, Worked};
 
 use crate::gate::Gate;
+use crate::queue::JobQueue;
+use crate::seats::Taker;
 use dl_desk::Job;
 use dl_loader::{Loader, LoaderName, Pass, end_job};
-use dl_queue::{JobQueue, Taker};
 use dl_source::Source;
 use std::alloc::Global;
 use std::sync::Wait;
@@ -31,10 +32,10 @@ pub enum WorkerEnd {
 /// that are left, until the queue is shut, and drops them.
 ///
 /// # Examples
-/// From `crates/dl_loader_tests`, with a gate of the test:
+/// From `crates/example_worker`, with a gate that does nothing:
 ///
 /// ```rust
-/// let end = work(rt, alloc, loader, source, pass, queue, taker, &gate);
+/// let end = work(rt, alloc, loader, source, &mut worker, &queue, taker, gate);
 /// ```
 pub fn work<L: LoaderName, S: Source, G: Gate, R: Wait>(
     rt: &R,

@@ -5,7 +5,7 @@
 ghost use Rattle.std.specs.Prelude.{◌≡◌};
 ghost use Rattle.dl_desk.specs.Service.{Answers};
 ghost use Rattle.dl_loader.specs.Opening.{Names};
-ghost use Rattle.dl_queue.specs.Seats.{IsSenderOf};
+ghost use Rattle.dl_workers.specs.Seats.{IsSenderOf};
 
 use anyhow::{Result, bail};
 use dl_desk::{FetchKey, Limits, TableLimit, TableLimits, Text};

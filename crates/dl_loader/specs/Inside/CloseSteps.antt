@@ -22,7 +22,7 @@ pub record MayClose (callers : ℕ) (b : Book) (accounts : List Account) : Type 
   pub shown : unshown b.cells accounts ≡ []
   pub ended : AllEnded b.history
 
--- With these outlines the history tells these accounts, and is what every history is.
+-- With these outlines the history has these accounts, and is what every history is.
 pub record Closes (service : Service) (history : List Event) (accounts : List Account) (outlines : List Outline) : Type 0 where
   pub accounts_are : accounts_at history outlines ≡ accounts
   pub is_history : IsHistory service (history_of history accounts)

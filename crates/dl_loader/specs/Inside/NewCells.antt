@@ -14,7 +14,7 @@ begun_by (Fresh c b) = 1
 abbrev pub cells_begun : List LoadReply → ℕ
 cells_begun replies = sum_by begun_by replies
 
--- a call begins those that its reply tells
+-- a call begins those that its reply says
 abbrev pub begun_in : Reply → ℕ
 begun_in (Loaded r) = begun_by r
 begun_in (Many rs) = cells_begun rs

@@ -1,7 +1,7 @@
 //! Exchanges of jobs: senders and takers use one queue, each on a thread of its own.
 
 ghost use Rattle.std.specs.Prelude.{◌≡◌, All, length};
-ghost use Rattle.dl_queue.specs.Seats.{AreSeatsOf, IsSenderOf, IsTakerOf};
+ghost use Rattle.dl_workers.specs.Seats.{AreSeatsOf, IsSenderOf, IsTakerOf};
 
 use dl_desk::{FetchKey, Job, Keys};
 use dl_tests::assert_is;

@@ -1,6 +1,6 @@
-//! The job queue of `dl_queue` on one thread: the worked rows, and what no clause says of a call that waits.
+//! The job queue of `dl_workers` on one thread: the worked rows, and what no clause says of a call that waits.
 
-ghost use Rattle.dl_queue.specs.Seats.{IsSenderOf, IsTakerOf};
+ghost use Rattle.dl_workers.specs.Seats.{IsSenderOf, IsTakerOf};
 
 use dl_desk::{FetchKey, Job, Keys};
 use dl_tests::assert_is;

@@ -4,14 +4,14 @@ ghost use Rattle.std.specs.Prelude.{◌≡◌, false};
 ghost use Rattle.dl_desk.specs.Service.{Answers};
 ghost use Rattle.dl_loader.specs.Opening.{Names};
 ghost use Rattle.dl_loader.specs.Pass.{GaveTicket};
-ghost use Rattle.dl_queue.specs.Seats.{IsSenderOf, IsTakerOf};
+ghost use Rattle.dl_workers.specs.Seats.{IsSenderOf, IsTakerOf};
 
 use crate::loader::{hashing, users};
 use dl_desk::{FetchKey, Limits};
 use dl_loader::{CallFault, CloseFault, History, Loader, LoaderName, Opening, Pass, Ticket};
 use dl_source::{Source, Tables};
 use dl_tests::{ADA, BOB, assert_is, numbered_keys, outcome_text};
-use dl_workers::{Gate, JobQueue, Sender, Taker, Tally, WorkerEnd, work};
+use dl_workers::{Gate, JobQueue, Sender, Tally, WorkerEnd, work};
 use std::alloc::Global;
 use std::hash::RandomState;
 use std::io::Eprint;
@@ -207,16 +207,12 @@ fn use_loader<L: LoaderName, S: Source, R: Abort + Eprint + Wait>(
     let ticket = load(rt, alloc, loader, &mut caller, row);
     send(rt, alloc, loader, &mut caller, &queue, &mut senders[0]);
     queue.shut(rt, &mut senders[0]);
-    work_once(
-        rt,
-        alloc,
-        loader,
-        source,
-        &mut worker,
-        &queue,
-        &mut takers[0],
-        row,
-    );
+    let gate = Told {
+        digits: AtomicU32::new(0),
+    };
+    let taker = &mut takers[0];
+    let end = work(rt, alloc, loader, source, &mut worker, &queue, taker, &gate);
+    assert_worked(rt, end, &gate, row);
     let text = wait(rt, alloc, loader, &mut caller, ticket);
     assert_is!(rt, &text.as_str(), &row.waited, row.about);
     let next = loader.clear_all(rt, alloc, &mut caller);
@@ -231,32 +227,11 @@ fn use_loader<L: LoaderName, S: Source, R: Abort + Eprint + Wait>(
     passes.push(worker).expect(rt, "no room");
 }
 
-/// A worker ends the jobs of a queue that is shut, as the row says.
-fn work_once<L: LoaderName, S: Source, R: Abort + Eprint + Wait>(
-    rt: &R,
-    alloc: Global,
-    loader: &Loader<L>,
-    source: &S,
-    pass: &mut Pass<L>,
-    queue: &JobQueue,
-    taker: &mut Taker,
-    row: &Row,
-)
-    requires source { Answers (S.answer source.now) L.service }
-    requires seat { IsTakerOf queue.now taker.old }
-    ensures { IsTakerOf queue.now taker.new }
-{
-    let gate = Told {
-        digits: AtomicU32::new(0),
-    };
-    let end = work(rt, alloc, loader, source, pass, queue, taker, &gate);
+/// A worker ended, and its gate heard, as the row says.
+fn assert_worked(rt: &(impl Abort + Eprint), end: WorkerEnd, gate: &Told, row: &Row) {
+    let told = gate.digits.load(Ordering::SeqCst);
     assert_is!(rt, &end, &row.end, row.about);
-    assert_is!(
-        rt,
-        &gate.digits.load(Ordering::SeqCst),
-        &row.told,
-        row.about
-    );
+    assert_is!(rt, &told, &row.told, row.about);
 }
 
 /// Loads the crowd and the users, each by a call of its own. The ticket is that of the last user.

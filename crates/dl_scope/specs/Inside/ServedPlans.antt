@@ -3,7 +3,7 @@ use Rattle.std.specs.Prelude.{◌≡◌, ℕ, suc, ◌+◌, List, [], ◌∷◌,
 use Rattle.dl_history.specs.Lists.{Every, total}
 use Rattle.dl_loader.specs.Pass.{Trace}
 use Rattle.dl_loader.specs.Dispatches.{dispatched, events_told, unsent}
-use Rattle.dl_queue.specs.declared.queue.Tally.{Tally}
+use Rattle.dl_workers.specs.declared.queue.Tally.{Tally}
 use Rattle.dl_haxl.specs.PlanEntries.{Follows}
 use Rattle.dl_scope.specs.Headline.{TellsEnd}
 use Rattle.dl_terms.specs.declared.plan.Plan.{Plan}

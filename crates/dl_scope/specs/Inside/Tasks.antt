@@ -1,8 +1,8 @@
 -- What threads are given.
 use Rattle.std.specs.Prelude.{◌≡◌, ◌+◌, List, [], ◌++◌, length, map, All}
 use Rattle.dl_loader.specs.Pass.{Pass}
-use Rattle.dl_queue.specs.Seats.{IsSenderOf, IsTakerOf, sent_jobs, taken_jobs}
-use Rattle.dl_queue.specs.declared.queue.JobQueue.{JobQueue}
+use Rattle.dl_workers.specs.Seats.{IsSenderOf, IsTakerOf, sent_jobs, taken_jobs}
+use Rattle.dl_workers.specs.declared.queue.JobQueue.{JobQueue}
 use Rattle.dl_terms.specs.declared.plan.Plan.{Plan}
 use Rattle.dl_scope.specs.declared.threads.task_lists.Tasks.{Tasks}
 

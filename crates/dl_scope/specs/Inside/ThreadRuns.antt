@@ -1,9 +1,9 @@
 -- What is known of what the threads of plans and workers give back.
 use Rattle.std.specs.Prelude.{◌≡◌, IfOk, IfErr}
 use Rattle.dl_desk.specs.Service.{Service}
-use Rattle.dl_queue.specs.Seats.{IsSenderOf, IsTakerOf, sent_jobs, taken_jobs}
-use Rattle.dl_queue.specs.declared.queue.JobQueue.{JobQueue}
-use Rattle.dl_queue.specs.declared.seats.Sender.{Sender}
+use Rattle.dl_workers.specs.Seats.{IsSenderOf, IsTakerOf, sent_jobs, taken_jobs}
+use Rattle.dl_workers.specs.declared.queue.JobQueue.{JobQueue}
+use Rattle.dl_workers.specs.declared.seats.Sender.{Sender}
 use Rattle.dl_haxl.specs.PlanEntries.{FollowsAndSends}
 use Rattle.dl_haxl.specs.Rounds.{AddsAndSends}
 use Rattle.dl_haxl.specs.RunFaults.{IsRunFault}

@@ -1,7 +1,7 @@
 //! The threads of plans.
 
 ghost use Rattle.std.specs.Prelude.{◌≡◌, IfSome};
-ghost use Rattle.dl_queue.specs.Seats.{IsSenderOf};
+ghost use Rattle.dl_workers.specs.Seats.{IsSenderOf};
 ghost use Rattle.dl_scope.specs.Inside.ThreadRuns.{IsPlanRun};
 
 use crate::threads::runs::PlanRun;

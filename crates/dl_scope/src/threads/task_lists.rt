@@ -1,7 +1,7 @@
 //! Deals out passes and seats to threads.
 
 ghost use Rattle.std.specs.Prelude.{◌≡◌, ◌≤◌, ◌+◌, ◌++◌, [], All, IfOk, length, map};
-ghost use Rattle.dl_queue.specs.Seats.{AreSeatsOf, sent_jobs, taken_jobs};
+ghost use Rattle.dl_workers.specs.Seats.{AreSeatsOf, sent_jobs, taken_jobs};
 ghost use Rattle.dl_scope.specs.Inside.Tasks.{AreTasks};
 
 use crate::threads::server::Server;

@@ -1,7 +1,7 @@
 //! What each thread of a server gets, and what a worker's thread does with it.
 
 ghost use Rattle.dl_desk.specs.Service.{Answers};
-ghost use Rattle.dl_queue.specs.Seats.{IsTakerOf};
+ghost use Rattle.dl_workers.specs.Seats.{IsTakerOf};
 ghost use Rattle.dl_scope.specs.Inside.ThreadRuns.{IsWorkerRun};
 
 use crate::threads::runs::WorkerRun;

@@ -1,8 +1,8 @@
 //! Puts together what the threads give back.
 
 ghost use Rattle.std.specs.Prelude.{◌≡◌, ◌+◌, ◌++◌, [], All, IfOk, OnOk, map};
-ghost use Rattle.dl_queue.specs.Balance.{Balances};
-ghost use Rattle.dl_queue.specs.Seats.{AreSeatsOf};
+ghost use Rattle.dl_workers.specs.Balance.{Balances};
+ghost use Rattle.dl_workers.specs.Seats.{AreSeatsOf};
 ghost use Rattle.dl_scope.specs.Inside.ThreadResults.{AllGave, AreResults, IsNoResult, WasTaken};
 
 use crate::threads::runs::{PlanRun, Runs, WorkerRun};

@@ -2,7 +2,7 @@
 
 ghost use Rattle.std.specs.Prelude.{◌≡◌, IfSome};
 ghost use Rattle.dl_desk.specs.Service.{Answers};
-ghost use Rattle.dl_queue.specs.Seats.{IsTakerOf};
+ghost use Rattle.dl_workers.specs.Seats.{IsTakerOf};
 ghost use Rattle.dl_scope.specs.Inside.ThreadRuns.{IsWorkerRun};
 
 use crate::threads::runs::WorkerRun;

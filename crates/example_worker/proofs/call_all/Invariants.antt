@@ -1,5 +1,5 @@
 -- The seat stays one of the queue.
-use Rattle.dl_queue.specs.Seats.{IsSenderOf}
+use Rattle.dl_workers.specs.Seats.{IsSenderOf}
 use Rattle.example_worker.proofs.call_all.Given as goal
 
 abbrev pub invariant-loop-pass : goal.invariant-loop-pass

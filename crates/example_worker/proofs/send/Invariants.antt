@@ -1,5 +1,5 @@
 -- The seat stays one of the queue.
-use Rattle.dl_queue.specs.Seats.{IsSenderOf}
+use Rattle.dl_workers.specs.Seats.{IsSenderOf}
 use Rattle.example_worker.proofs.send.Given as goal
 
 abbrev pub invariant-loop-job : goal.invariant-loop-job

@@ -4,7 +4,7 @@ use Rattle.dl_values.proofs.Errors.{on_err}
 use Rattle.dl_history.specs.Entries.{calls_of}
 use Rattle.dl_loader.proofs.AdditionLemmas.{grows_after}
 use Rattle.dl_loader.proofs.TicketsStay.{keeps_after, keeps_self}
-use Rattle.dl_queue.specs.Seats.{sent_jobs}
+use Rattle.dl_workers.specs.Seats.{sent_jobs}
 use Rattle.dl_haxl.specs.Inside.StepsSoFar.{answers_of, rounds_of}
 use Rattle.dl_haxl.proofs.Faults.{fault_of_same}
 use Rattle.dl_haxl.proofs.EvaluationLemmas.{sent_after}

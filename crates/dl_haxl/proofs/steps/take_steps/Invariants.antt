@@ -1,6 +1,6 @@
 use Rattle.std.proofs.Common.{◌≡◌, length}
 use Rattle.dl_loader.specs.Additions.{KeepsTickets}
-use Rattle.dl_queue.specs.Seats.{IsSenderOf, sent_jobs}
+use Rattle.dl_workers.specs.Seats.{IsSenderOf, sent_jobs}
 use Rattle.dl_haxl.proofs.Stretches.{Leaves}
 use Rattle.dl_haxl.proofs.steps.take_steps.Given as goal
 

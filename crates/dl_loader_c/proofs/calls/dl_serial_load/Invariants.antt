@@ -1,7 +1,7 @@
 use Rattle.dl_loader_c.specs.Named.{service_by}
 use Rattle.dl_loader_c.proofs.calls.dl_serial_load.Given as goal
 
--- the type stands for the loader of the handle
+-- the type names the loader of the handle
 abbrev pub ghosts-load-L-LoaderName : goal.ghosts-load-L-LoaderName
 ghosts-load-L-LoaderName a = record { cells = a.held.name.cells; service = service_by a.held.name }
 

@@ -1,7 +1,7 @@
 use Rattle.dl_loader_c.specs.Named.{service_by}
 use Rattle.dl_loader_c.proofs.ends.dl_serial_free.Given as goal
 
--- the type stands for the loader of the handle
+-- the type names the loader of the handle
 abbrev pub ghosts-free-L-LoaderName : goal.ghosts-free-L-LoaderName
 ghosts-free-L-LoaderName a = record { cells = a.held.name.cells; service = service_by a.held.name }
 

@@ -1,7 +1,7 @@
 use Rattle.dl_loader_c.specs.Named.{service_by}
 use Rattle.dl_loader_c.proofs.many.dl_serial_load_many.Given as goal
 
--- the type stands for the loader of the handle
+-- the type names the loader of the handle
 abbrev pub ghosts-load_many-L-LoaderName : goal.ghosts-load_many-L-LoaderName
 ghosts-load_many-L-LoaderName a = record { cells = a.held.name.cells; service = service_by a.held.name }
 

@@ -1,7 +1,7 @@
 use Rattle.dl_loader_c.specs.Named.{service_by}
 use Rattle.dl_loader_c.proofs.reading.dl_serial_event.Given as goal
 
--- the type stands for the loader of the handle
+-- the type names the loader of the handle
 abbrev pub ghosts-event-L-LoaderName : goal.ghosts-event-L-LoaderName
 ghosts-event-L-LoaderName a = record { cells = a.held.name.cells; service = service_by a.held.name }
 

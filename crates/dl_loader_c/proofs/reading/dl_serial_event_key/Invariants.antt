@@ -1,7 +1,7 @@
 use Rattle.dl_loader_c.specs.Named.{service_by}
 use Rattle.dl_loader_c.proofs.reading.dl_serial_event_key.Given as goal
 
--- the type stands for the loader of the handle
+-- the type names the loader of the handle
 abbrev pub ghosts-event_key-L-LoaderName : goal.ghosts-event_key-L-LoaderName
 ghosts-event_key-L-LoaderName a = record { cells = a.held.name.cells; service = service_by a.held.name }
 

@@ -1,6 +1,6 @@
 use Rattle.dl_values.specs.Answering.{function}
 use Rattle.dl_loader.specs.Opening.{service_of}
-use Rattle.dl_host.specs.HostSource.{answer_of}
+use Rattle.dl_loader.specs.HostSource.{answer_of}
 use Rattle.dl_replay.proofs.replaying.replay.Given as goal
 
 -- the type names the loader after its opening

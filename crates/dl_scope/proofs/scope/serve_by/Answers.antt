@@ -2,7 +2,7 @@ use Rattle.std.proofs.Common.{◌≡◌, ◌∙◌, ◌+◌, [], ap, sym, subst,
 use Rattle.std.proofs.lemmas.List.{length-map}
 use Rattle.std.proofs.lemmas.List.Elements.{recursion_from_All}
 use Rattle.std.proofs.lemmas.Slice.Zip.{AllZip-long}
-use Rattle.dl_queue.specs.Seats.{sent_jobs, taken_jobs}
+use Rattle.dl_workers.specs.Seats.{sent_jobs, taken_jobs}
 use Rattle.dl_scope.specs.Inside.Results.{IsDone, fault_of}
 use Rattle.dl_scope.specs.Inside.ThreadRuns.{IsPlanRun}
 use Rattle.dl_scope.specs.Inside.ServedPlans.{AreServed}

@@ -1,7 +1,7 @@
 use Rattle.std.proofs.Common.{subst}
 use Rattle.std.specs.Prelude.{Some}
 use Rattle.std.proofs.lemmas.List.Elements.{All-pop}
-use Rattle.dl_queue.specs.Seats.{IsSenderOf}
+use Rattle.dl_workers.specs.Seats.{IsSenderOf}
 use Rattle.dl_scope.specs.Inside.ThreadRuns.{IsPlanRun}
 use Rattle.dl_scope.specs.declared.threads.tasks.PlanTask.{PlanTask}
 use Rattle.dl_scope.proofs.ThreadJoins.{all_joined}

@@ -2,7 +2,7 @@ use Rattle.std.proofs.Common.{subst}
 use Rattle.std.specs.Prelude.{Some}
 use Rattle.std.proofs.lemmas.List.Elements.{All-pop}
 use Rattle.std.specs.List.{AllZip}
-use Rattle.dl_queue.specs.Seats.{IsTakerOf}
+use Rattle.dl_workers.specs.Seats.{IsTakerOf}
 use Rattle.dl_scope.specs.Inside.ThreadRuns.{IsPlanRun, IsWorkerRun, SendsNothing}
 use Rattle.dl_scope.specs.declared.threads.tasks.WorkerTask.{WorkerTask}
 use Rattle.dl_scope.proofs.ThreadJoins.{all_joined, others_stay}

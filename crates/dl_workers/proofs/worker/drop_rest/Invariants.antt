@@ -1,4 +1,4 @@
-use Rattle.dl_queue.specs.Seats.{IsTakerOf, taken_jobs}
+use Rattle.dl_workers.specs.Seats.{IsTakerOf, taken_jobs}
 use Rattle.dl_workers.specs.WorkerResult.{Took}
 use Rattle.dl_workers.proofs.worker.drop_rest.Given as goal
 

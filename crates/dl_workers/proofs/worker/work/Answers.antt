@@ -1,5 +1,5 @@
 use Rattle.std.proofs.Common.{◌∙◌, refl}
-use Rattle.dl_queue.specs.Seats.{taken_jobs}
+use Rattle.dl_workers.specs.Seats.{taken_jobs}
 use Rattle.dl_workers.proofs.WorkerSteps.{ended_none, ended_one_more, gave_up}
 use Rattle.dl_workers.proofs.worker.work.Goals as goal
 

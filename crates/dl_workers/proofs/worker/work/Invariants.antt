@@ -1,5 +1,5 @@
 use Rattle.std.proofs.Common.{◌≡◌}
-use Rattle.dl_queue.specs.Seats.{IsTakerOf, taken_jobs}
+use Rattle.dl_workers.specs.Seats.{IsTakerOf, taken_jobs}
 use Rattle.dl_workers.specs.WorkerResult.{EndedEach}
 use Rattle.dl_workers.proofs.worker.work.Given as goal
 

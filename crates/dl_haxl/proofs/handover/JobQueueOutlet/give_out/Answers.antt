@@ -1,5 +1,5 @@
 use Rattle.std.proofs.Common.{◌∙◌}
-use Rattle.dl_queue.specs.Seats.{sent_jobs}
+use Rattle.dl_workers.specs.Seats.{sent_jobs}
 use Rattle.dl_haxl.proofs.HandoverLemmas.{hands_back, hands_sent}
 use Rattle.dl_haxl.proofs.handover.JobQueueOutlet.give_out.Goals as goal
 

@@ -1,5 +1,5 @@
 use Rattle.std.proofs.Common.{◌≡◌}
-use Rattle.dl_queue.specs.Seats.{IsSenderOf, sent_jobs}
+use Rattle.dl_workers.specs.Seats.{IsSenderOf, sent_jobs}
 use Rattle.dl_haxl.proofs.HandoverLemmas.{Hands}
 use Rattle.dl_haxl.proofs.handover.JobQueueOutlet.give_out.Given as goal
 

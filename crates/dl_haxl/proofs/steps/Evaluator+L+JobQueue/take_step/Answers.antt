@@ -7,7 +7,7 @@ use Rattle.dl_terms.specs.declared.plan.Step.TheVariants.{Prime, Clear, ClearAll
 use Rattle.dl_loader.specs.Additions.{Grows}
 use Rattle.dl_loader.proofs.TicketsStay.{keeps_same}
 use Rattle.dl_loader.specs.Pass.{Pass, Trace}
-use Rattle.dl_queue.specs.Seats.{sent_jobs}
+use Rattle.dl_workers.specs.Seats.{sent_jobs}
 use Rattle.dl_haxl.proofs.RoundSteps.{none_sent}
 use Rattle.dl_haxl.proofs.Stretches.{call_step, made_step}
 use Rattle.dl_haxl.proofs.steps.Evaluator+L+JobQueue.take_step.Goals as goal

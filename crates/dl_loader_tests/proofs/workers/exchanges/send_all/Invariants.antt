@@ -1,4 +1,4 @@
-use Rattle.dl_queue.specs.Seats.{IsSenderOf}
+use Rattle.dl_workers.specs.Seats.{IsSenderOf}
 use Rattle.dl_loader_tests.proofs.workers.exchanges.send_all.Given as goal
 
 -- the sender stays one of the queue

@@ -1,4 +1,4 @@
-use Rattle.dl_queue.specs.Seats.{IsTakerOf}
+use Rattle.dl_workers.specs.Seats.{IsTakerOf}
 use Rattle.dl_loader_tests.proofs.workers.exchanges.take_all.Given as goal
 
 abbrev pub invariant-loop : goal.invariant-loop

@@ -1,4 +1,4 @@
-use Rattle.dl_queue.specs.Seats.{IsSenderOf}
+use Rattle.dl_workers.specs.Seats.{IsSenderOf}
 use Rattle.dl_loader_tests.proofs.workers.work.send.Given as goal
 
 abbrev pub invariant-loop-job : goal.invariant-loop-job

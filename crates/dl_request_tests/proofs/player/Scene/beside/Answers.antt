@@ -9,8 +9,8 @@ use Rattle.std.specs.contracts.alloc.Global as Heap
 use Rattle.dl_loader.specs.contracts.loader.Loader as Loader
 use Rattle.dl_loader.proofs.Closures.{captures_send}
 use Rattle.dl_loader.proofs.ThreadSafety.{Loader-sync}
-use Rattle.dl_queue.specs.contracts.queue.JobQueue as JobQueue
-use Rattle.dl_queue.proofs.queue.JobQueue.TheSendSync as queue
+use Rattle.dl_workers.specs.contracts.queue.JobQueue as JobQueue
+use Rattle.dl_workers.proofs.queue.JobQueue.TheSendSync as queue
 use Rattle.dl_request_tests.specs.contracts.player.Worker as Worker
 use Rattle.dl_request_tests.proofs.player.Worker.TheSendSync as worker
 use Rattle.dl_request_tests.proofs.player.Scene.beside.Goals as goal

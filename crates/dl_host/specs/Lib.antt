@@ -1,2 +1,0 @@
-pub mod HostSource
-pub mod Jobs

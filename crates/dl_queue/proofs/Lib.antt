@@ -1,6 +1,0 @@
-mod SeatSteps
-mod NewSeats
-mod Finish
-mod Jobs
-mod Steps
-mod Totals

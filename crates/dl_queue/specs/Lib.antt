@@ -1,5 +1,0 @@
-pub mod Bag
-pub mod LosslessRule
-pub mod QueueFaults
-pub mod Seats
-pub mod Balance
