@@ -22,7 +22,7 @@ use std::marker::Model;
 /// and `cell_of` the name of one.
 ///
 /// # Examples
-/// Shows a copy of a value in a cell, and asks whether the cell took it, from `crates/dl_loader_tests`:
+/// Shows a copy of a value in a cell, and asks whether the cell took it, from `crates/dl_tests`:
 ///
 /// ```rust
 /// let mut reader = row.reader(place).expect(rt, "no memory");

@@ -22,7 +22,7 @@ use std::hash::RandomState;
 /// its first outcome serves the whole term.
 ///
 /// # Examples
-/// A test of `crates/dl_request_tests` polls a run, loads the two users that it wants, and supplies their tickets:
+/// A test of `crates/dl_tests` polls a run, loads the two users that it wants, and supplies their tickets:
 ///
 /// ```rust
 /// self.poll(task, run, "pending")?;

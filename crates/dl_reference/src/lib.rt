@@ -5,7 +5,7 @@
 //! is the same in plain Rust, if you would rather read that. It has no memo and no batches. It keeps the list of
 //! accepted calls, each an [`Atom`], and looks through all of it for each answer. The proof is that each answer is the
 //! one that the definitions give. So if you run calls here and compare the replies with what you worked out by hand,
-//! you test the definitions themselves; `dl_loader_tests` does.
+//! you test the definitions themselves; `dl_tests` does.
 //!
 //! It is a slow loader, and no program uses it.
 #![tactic(auto)]

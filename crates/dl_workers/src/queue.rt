@@ -36,7 +36,7 @@ pub struct Tally {
 /// back.
 ///
 /// # Examples
-/// Sends a job and takes it, all on one thread, from `crates/dl_loader_tests`. In a program `dl_workers::work` takes
+/// Sends a job and takes it, all on one thread, from `crates/dl_tests`. In a program `dl_workers::work` takes
 /// the jobs until you shut the queue.
 ///
 /// ```rust
