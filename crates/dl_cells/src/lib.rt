@@ -2,7 +2,8 @@
 //!
 //! You set a cell by [`CellRow::show`] and read it by [`CellRow::look`], both with a [`Reader`] of that cell. The
 //! reader keeps what you have learned: once it knows the cell's value, it gives you that value for ever. Two readers of
-//! one cell that know its value know the same one ([`Reader::agree`]).
+//! one cell that know its value know the same one ([`Reader::agree`]). A [`ReadyCell`] is a cell that you looked up
+//! before you set it.
 //!
 //! A [`Flag`] is such a cell without a value: all that you can learn of it is that somebody has raised it.
 #![tactic(auto)]

@@ -4,5 +4,4 @@
 mod bodies;
 mod cells;
 mod desk;
-mod reference;
 mod refused;

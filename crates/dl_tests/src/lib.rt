@@ -2,11 +2,11 @@
 //!
 //! There are worked rows of calls of the shared loader, of the job queue and of fetch workers; of terms on the caller's
 //! own thread and over workers; of futures that a test polls by hand; and of plans. And of the crates below the loader:
-//! cells show what somebody has set, whatever threads do; a desk takes the most keys that it may have; the reference
-//! loader replies. A call that no program makes answers as ever when it ran out of memory and you make it again.
+//! cells show what somebody has set, whatever threads do; a desk takes the most keys that it may have. A call that no
+//! program makes answers as ever when it ran out of memory and you make it again.
 //!
 //! They share the tables of users that rows read, tables that count the questions to them, tables with no memory for
-//! one of them, many keys, plans, terms and scripts from their texts, and the texts of answers; how tests compare; and
+//! one of them, many keys, plans and terms from their texts, and the texts of answers; how tests compare; and
 //! what they ask of the library below them, which refuses a call its n-th growth.
 #![tactic(auto)]
 
@@ -54,7 +54,7 @@ pub use no_room::NoRoom;
 #[cfg(test)]
 pub use numbered::numbered_keys;
 #[cfg(test)]
-pub use plans::{FRIENDS, ONE, U1, U2, plan, script, term};
+pub use plans::{FRIENDS, ONE, U1, U2, plan, term};
 #[cfg(test)]
 pub use refusals::{MOST_GROWTHS, Refusal};
 #[cfg(test)]

@@ -1,6 +1,6 @@
-//! Terms and plans, from their texts in a plan file, and scripts.
+//! Terms and plans, from their texts in a plan file.
 
-use dl_documents::{Input, Script, read_input};
+use dl_documents::{Input, read_input};
 use dl_terms::{Plan, Step, Term};
 use std::alloc::Global;
 use std::hash::RandomState;
@@ -23,14 +23,6 @@ pub fn plan(alloc: Global, hashing: RandomState, text: &str) -> Option<Plan> {
     match read_input(alloc, hashing, file.as_bytes()) {
         Ok(Input::Plans(mut file)) => file.plans.pop(),
         Ok(Input::Script(_)) | Err(_) => None,
-    }
-}
-
-/// The script that a document is, if it is one and there is memory for it.
-pub fn script(alloc: Global, hashing: RandomState, document: &str) -> Option<Script> {
-    match read_input(alloc, hashing, document.as_bytes()) {
-        Ok(Input::Script(script)) => Some(script),
-        Ok(Input::Plans(_)) | Err(_) => None,
     }
 }
 

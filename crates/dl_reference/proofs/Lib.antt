@@ -1,3 +1,0 @@
-pub mod HistoryGrowth
-pub mod Latests
-pub mod AnsweredHistories

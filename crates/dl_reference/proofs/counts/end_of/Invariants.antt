@@ -1,7 +1,0 @@
-use Rattle.std.proofs.Common.{◌≡◌, take}
-use Rattle.dl_desk.specs.History as desk
-use Rattle.dl_reference.specs.History.{history_of}
-use Rattle.dl_reference.proofs.counts.end_of.Given as goal
-
-abbrev pub invariant-loop-atom : goal.invariant-loop-atom
-invariant-loop-atom l = l.end ≡ desk.end_of (history_of (take l.atom-index l.history)) l.number
