@@ -9,7 +9,7 @@ use Rattle.dl_values.specs.declared.outcome.Outcome.{Outcome}
 use Rattle.dl_values.specs.declared.outcome.Outcome.TheVariants.{Value, KeyError}
 use Rattle.dl_values.specs.declared.outcome.BatchAnswer.{BatchAnswer}
 use Rattle.dl_values.specs.declared.outcome.BatchAnswer.TheVariants.{Each}
-use Rattle.example_own_source.specs.declared.Domains.{Domains}
+use Rattle.example_own_source.specs.declared.domains.Domains.{Domains}
 
 -- a dot, in ASCII
 abbrev pub is_dot : ℕ → Bool

@@ -1,7 +1,9 @@
-//! A source that queries a SQLite file.
+//! A source that queries a SQLite file, and two requests over it.
 
-use dl_desk::{BatchAnswer, FetchKey, Json, Message, Outcome, Outcomes};
-use dl_source::Fetch;
+use dl_desk::{FetchKey, Json, Message, Outcome, Outcomes};
+use dl_scope::{Plan, Step};
+use dl_source::{BatchAnswer, Fetch};
+use dl_terms::Term;
 use serde_json::Value;
 use sqlite::{Connection, Error, ErrorCode, File, FileStore, params};
 use std::alloc::{AllocError, Global};
@@ -71,4 +73,26 @@ fn name(alloc: Global, conn: &mut Connection<FileStore<File>>, id: &str) -> Resu
         }
         Err(fault) => Err(fault),
     }
+}
+
+/// Makes a database of two users.
+pub(crate) fn fill(rt: &HostRuntime, path: &str) -> Result<(), Error> {
+    let mut conn = Connection::open(rt, path)?;
+    let filled = conn.execute_batch(
+        "CREATE TABLE IF NOT EXISTS user (id TEXT PRIMARY KEY, name TEXT NOT NULL) STRICT;
+         INSERT OR REPLACE INTO user VALUES ('u1', 'Ada'), ('u2', 'Bob')",
+    );
+    conn.close().and(filled)
+}
+
+/// The plans of two requests.
+pub(crate) fn requests(alloc: Global) -> anyhow::Result<Vec<Plan>> {
+    Ok(vec![in alloc; request(alloc, "u1")?, request(alloc, "u2")?]?)
+}
+
+/// The plan of a request: the load of a user.
+fn request(alloc: Global, id: &str) -> anyhow::Result<Plan> {
+    let user = Term::Load(FetchKey::new(alloc, "user", id)?);
+    let steps = vec![in alloc; Step::Eval(user)]?;
+    Ok(Plan { steps })
 }
