@@ -4,7 +4,7 @@
 # lines of crates.txt count. While rt works in a folder it keeps others out of all folders below. So the longest chain is proved in place, by
 # $(jobs) jobs, and what is beside it in copies of the sources, with the libraries that it uses; what comes of it is moved here.
 SHELL := bash
-chain := dl_values dl_desk dl_history dl_loader dl_workers dl_haxl dl_scope dl_plans plans
+chain := dl_values dl_desk dl_history dl_loader dl_workers dl_haxl dl_scope dl_plans dl_server plans
 # What is beside it is proved by one job each, but this by two, where the chain has several.
 large := dl_documents
 

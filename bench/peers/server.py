@@ -1,5 +1,5 @@
 #!/usr/bin/env python3
-"""A server in plain Python that does what `plan_server` does for plans of loads, picks, follows and lists: a thread for each connection, a
+"""A server in plain Python that does what `plans serve` does for plans of loads, picks, follows and lists: a thread for each connection, a
 dictionary for each table, and the rows that a request has loaded kept for the request.
 
     server.py PORT TABLES

@@ -1,14 +1,16 @@
 -- What the matches of a command line give.
-use Rattle.std.proofs.Common.{◌≡◌, ℕ, true, List, Option, Some, None, option_map, String, codes, refl, sym, subst, ◌∙◌}
+use Rattle.std.proofs.Common.{◌≡◌, ℕ, Bool, true, false, not, ◌&&◌, List, Option, Some, None, option_map, String, codes, refl, sym, subst, ◌∙◌}
 use Rattle.std.specs.Prelude.{IfOk, Result}
 use Rattle.std.specs.declared.alloc.Global.{Global}
 use Rattle.std.proofs.lemmas.Result.{IfOk-weaker}
 use Rattle.clap.proofs.WalkLemmas.{one_text-rows}
 use Rattle.clap.specs.Matches.{one_text, subcommand_name_of}
+use Rattle.clap.specs.declared.builder.command.Command.{Command}
+use Rattle.clap.specs.declared.builder.command.Command.TheViews.{out-Command}
 use Rattle.clap.specs.declared.error.Error.{Error}
 use Rattle.clap.specs.declared.parser.matches.ArgMatches.{ArgMatches}
 use Rattle.clap.specs.declared.parser.matches.Found.{Found}
-use Rattle.clap.specs.Words.{App, HasMatchesOf, Row, Text, found_of, is_simple, matches_of, rows_of, subcommand_of, subcommand_rows_of}
+use Rattle.clap.specs.Words.{App, HasMatchesOf, Row, Text, found_of, is_simple, matches_of, rows_of, shape_of, subcommand_of, subcommand_rows_of}
 use Rattle.dl_plans.specs.Options.{AreGiven, GivesNumber, IsDecimal, name_of}
 use Rattle.dl_plans.specs.declared.settings.Options.{Options}
 
@@ -53,13 +55,26 @@ name_used m = mapped_twice (λ used. used.0) _ _
 none_some : (name : Text) → ◌≡◌ {A = Option Text} None (Some name) → ⊥
 none_some name h = cc
 
-used_is : (used : Option (Text × List Row)) (name : Text) (rows : List Row) → name_of used ≡ Some name → option_map (λ u. u.1) used ≡ Some rows
+pub used_is : (used : Option (Text × List Row)) (name : Text) (rows : List Row) → name_of used ≡ Some name → option_map (λ u. u.1) used ≡ Some rows
     → used ≡ Some (name, rows)
 used_is None name rows named has = absurd (none_some name named)
 used_is (Some u) name rows named has =
     let first : u.0 ≡ name = cc in
     let second : u.1 ≡ rows = cc in
     (λ i. Some (first i, second i))
+
+false_true : ◌≡◌ {A = Bool} false true → ⊥
+false_true h = cc
+
+third : (x y g r : Bool) → (x && (y && (not g && r))) ≡ true → g ≡ false
+third x y false r h = refl
+third false y true r h = absurd (false_true h)
+third true false true r h = absurd (false_true h)
+third true true true r h = absurd (false_true h)
+
+-- a plain command has no global argument
+pub no_globals : (c : Command) → (shape_of c).is_plain ≡ true → (out-Command c).has_globals ≡ false
+no_globals c plain = third _ _ _ _ plain
 
 -- a subcommand that was used has its name, and its option `--to` this number
 pub migrates : (m own : ArgMatches) (name : Text) (n v : ℕ) → subcommand_name_of m ≡ Some name

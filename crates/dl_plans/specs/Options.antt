@@ -97,9 +97,29 @@ answering_app = with_rule (with_rule serving_app explain_rule) statistics_rule
 abbrev pub file_words_app : App
 file_words_app = with_rule (with_rule (with_rule (with_rule answering_app picture_rule) trace_rule) database_rule) history_rule
 
+-- the options for answering a document, and `migrate`
+abbrev pub document_app : App
+document_app = with_subcommand file_words_app migrate_app.top
+
+-- `--max-answer N` of `serve`, where it is 16 MiB if the words don't give it
+abbrev pub bounded_answer_rule : Rule
+bounded_answer_rule = record max_answer_rule { defaults = codes "16777216" ∷ [] }
+
+-- `--tables FILE`
+abbrev pub tables_rule : Rule
+tables_rule = record (new_rule (codes "tables")) { long = Some (codes "tables"); value_names = 1 }
+
+-- `serve` without options
+abbrev pub server_app : App
+server_app = new_app (codes "serve")
+
+-- `serve`, with its options
+abbrev pub serve_app : App
+serve_app = with_rule (with_rule (with_rule (with_rule server_app workers_rule) bounded_answer_rule) database_rule) tables_rule
+
 -- the command line without its version
 abbrev pub plans_words_app : App
-plans_words_app = with_subcommand file_words_app migrate_app.top
+plans_words_app = with_subcommand document_app serve_app.top
 
 abbrev pub with_version : Shape → Shape
 with_version s = record s { has_version = true }
@@ -145,12 +165,20 @@ abbrev pub Migrates : Option (Text × List Row) → Option Target → Type 0
 Migrates used None = name_of used ≡ Some (codes "migrate") → ⊥
 Migrates used (Some target) = (rows : List Row) × (used ≡ Some (codes "migrate", rows)) × GivesNumber rows (codes "to") (number_of target)
 
+-- Whether to answer the requests of a connection, and whose options say how plans are served: those of `serve`, if that is the
+-- subcommand in use, and else those of the program.
+abbrev pub IsServing : Bool → List Row → Option (Text × List Row) → List Row → Type 0
+IsServing true rows used own = used ≡ Some (codes "serve", own)
+IsServing false rows used own = (name_of used ≡ Some (codes "serve") → ⊥) × (own ≡ rows)
+
 -- the options and the file of the database that the matches and the subcommand in use give
 pub record AreGiven (rows : List Row) (used : Option (Text × List Row)) (o : Options) (file : Option (String Global)) : Type 0 where
-  pub workers : GivesNumber rows (codes "workers") o.workers
+  pub own : List Row
+  pub serving : IsServing o.serve rows used own
+  pub workers : GivesNumber own (codes "workers") o.workers
   pub least : 1 ≤ o.workers
   pub most : o.workers ≤ most_workers
-  pub max_answer : GivesMost rows o.max_answer
+  pub max_answer : GivesMost own o.max_answer
   pub batches : one_of (codes "batches") rows ≡ Some (codes "true") → o.batches ≡ true
   pub no_batches : one_of (codes "batches") rows ≡ Some (codes "false") → o.batches ≡ false
   pub explain : one_of (codes "explain") rows ≡ Some (codes "true") → o.explain ≡ true
@@ -159,7 +187,8 @@ pub record AreGiven (rows : List Row) (used : Option (Text × List Row)) (o : Op
   pub no_statistics : one_of (codes "statistics") rows ≡ Some (codes "false") → o.statistics ≡ false
   pub picture : option_map string_bytes o.picture ≡ first_of (codes "picture") rows
   pub trace : option_map string_bytes o.trace ≡ first_of (codes "trace") rows
-  pub database : option_map string_bytes file ≡ first_of (codes "database") rows
+  pub database : option_map string_bytes file ≡ first_of (codes "database") own
+  pub tables : option_map string_bytes o.tables ≡ first_of (codes "tables") own
   pub unread : o.database ≡ None
   pub migrate : Migrates used o.migrate
   pub history : option_map string_bytes o.history ≡ first_of (codes "history") rows

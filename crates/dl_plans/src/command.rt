@@ -1,9 +1,9 @@
 //! The command line.
 
-ghost use Rattle.std.specs.Prelude.{◌≡◌, IfOk, IfSome, map, option_map, false, string_bytes};
+ghost use Rattle.std.specs.Prelude.{◌≡◌, ◌&&◌, IfOk, IfSome, map, is_some, option_map, false, string_bytes};
 ghost use Rattle.clap.specs.Words.{App, Rule, app_of, rule_of, found_of, matches_of, rows_of, subcommand_of, subcommand_rows_of, with_rule};
-ghost use Rattle.dl_plans.specs.Options.{plans_app, plans_words_app, file_words_app, program_app, have_one_name, AreApart, AreGiven, GivesMost};
-ghost use Rattle.dl_plans.specs.Options.{Migrates, to_rule, workers_rule, max_answer_rule, batches_rule, explain_rule, statistics_rule, picture_rule, trace_rule, database_rule, history_rule};
+ghost use Rattle.dl_plans.specs.Options.{plans_app, plans_words_app, document_app, file_words_app, program_app, serve_app, server_app, have_one_name, AreApart, AreGiven, GivesMost};
+ghost use Rattle.dl_plans.specs.Options.{IsServing, Migrates, bounded_answer_rule, tables_rule, to_rule, workers_rule, max_answer_rule, batches_rule, explain_rule, statistics_rule, picture_rule, trace_rule, database_rule, history_rule};
 
 use crate::settings::Options;
 use clap::error::ErrorKind;
@@ -15,7 +15,9 @@ use std::convert::AsStr;
 /// The options in the words behind the program's name, `[--workers N] [--max-answer N] [--batches] [--explain]
 /// [--statistics] [--picture FILE] [--trace FILE] [--database FILE] [--history FILE] [migrate [--to N]]`, and the file of
 /// the database. The number of workers is 1 to 16, and 3 if you don't give it; that behind `migrate` is 2 or 3, and else 2.
-/// The most bytes are 1 to 4,294,967,295, or have no bound. The options have no tables of a database yet.
+/// The most bytes are 1 to 4,294,967,295, or have no bound. Or the words are `serve [--workers N] [--max-answer N]
+/// [--database FILE | --tables FILE]`, of which no option comes in front; then the most bytes are 16 MiB if you don't give
+/// them. The options have no tables of a database yet.
 ///
 /// # Errors
 /// The help, if the words ask for it; why the words are wrong, with the usage; or that memory ran out.
@@ -27,6 +29,7 @@ pub fn options<'a, S: AsStr>(
         IfOk result (λ g. AreGiven (matches_of plans_app texts) (subcommand_of plans_app texts) g.0 g.1) }
     ensures apart { IfOk result (λ g. AreApart g.0.picture g.0.trace g.1) }
     ensures history { IfOk result (λ g. AreApart g.0.picture g.0.trace g.0.history) }
+    ensures source { IfOk result (λ g. (is_some g.1 && is_some g.0.tables) ≡ false) }
 {
     let mut command = command(alloc)?;
     read(alloc, &mut command, words)
@@ -60,6 +63,7 @@ fn read<'a, S: AsStr>(
         IfOk result (λ g. AreGiven (matches_of plans_app texts) (subcommand_of plans_app texts) g.0 g.1) }
     ensures apart { IfOk result (λ g. AreApart g.0.picture g.0.trace g.1) }
     ensures history { IfOk result (λ g. AreApart g.0.picture g.0.trace g.0.history) }
+    ensures source { IfOk result (λ g. (is_some g.1 && is_some g.0.tables) ≡ false) }
 {
     match command.try_get_matches_from_mut(words) {
         Ok(matches) => given(alloc, command, &matches),
@@ -76,18 +80,23 @@ fn given(
     ensures given { IfOk result (λ g. AreGiven (rows_of (found_of matches.now)) (subcommand_rows_of matches.now) g.0 g.1) }
     ensures apart { IfOk result (λ g. AreApart g.0.picture g.0.trace g.1) }
     ensures history { IfOk result (λ g. AreApart g.0.picture g.0.trace g.0.history) }
+    ensures source { IfOk result (λ g. (is_some g.1 && is_some g.0.tables) ≡ false) }
 {
-    let workers = match matches.get_one::<u32>("workers") {
+    let (own, serve) = serving(matches);
+    if serve && matches.args_present() {
+        return Err(out_of_place(command));
+    }
+    let workers = match own.get_one::<u32>("workers") {
         Some(workers) if (1..=16).contains(&workers) => workers,
         _ => return Err(out_of_range(command)),
     };
-    let Some(max_answer) = most_bytes(matches) else {
+    let Some(max_answer) = most_bytes(own) else {
         return Err(out_of_range(command));
     };
     let Some(migrate) = migration(matches) else {
         return Err(out_of_range(command));
     };
-    let database = copied(alloc, matches.get_str("database"))?;
+    let database = copied(alloc, own.get_str("database"))?;
     let options = Options {
         workers,
         max_answer,
@@ -99,11 +108,23 @@ fn given(
         database: None,
         migrate,
         history: copied(alloc, matches.get_str("history"))?,
+        serve,
+        tables: copied(alloc, own.get_str("tables"))?,
     };
     apart(command, options, database)
 }
 
-/// What was given, if no two options name the same file.
+/// The matches of the options that say how plans are served, and whether `serve` is in use, whose they then are.
+fn serving<'m, 'a>(matches: &'m ArgMatches<'a>) -> (&'m ArgMatches<'a>, bool)
+    ensures { IsServing result.1 (rows_of (found_of matches.now)) (subcommand_rows_of matches.now) (rows_of (found_of result.0.now)) }
+{
+    match matches.subcommand_matches("serve") {
+        Some(own) => (own, true),
+        None => (matches, false),
+    }
+}
+
+/// What was given, if no two options name the same file, and one source of tables at most.
 fn apart(
     command: &mut Command<'_>,
     options: Options,
@@ -112,13 +133,24 @@ fn apart(
     ensures given { IfOk result (λ g. g ≡ (options, database)) }
     ensures apart { IfOk result (λ g. AreApart g.0.picture g.0.trace g.1) }
     ensures history { IfOk result (λ g. AreApart g.0.picture g.0.trace g.0.history) }
+    ensures source { IfOk result (λ g. (is_some g.1 && is_some g.0.tables) ≡ false) }
 {
     if has_file_twice(&options.picture, &options.trace, &database)
         || has_file_twice(&options.picture, &options.trace, &options.history)
     {
         return Err(out_of_files(command));
     }
+    if are_two(&database, &options.tables) {
+        return Err(out_of_sources(command));
+    }
     Ok((options, database))
+}
+
+/// Whether both files are named.
+fn are_two(file: &Option<String>, other: &Option<String>) -> bool
+    ensures { result ≡ (is_some file.now && is_some other.now) }
+{
+    file.is_some() && other.is_some()
 }
 
 /// The most bytes of a plan's answers, if the matches give a number, or `None` if it is out of range.
@@ -188,6 +220,18 @@ fn out_of_files(command: &mut Command<'_>) -> Error {
     refused(command, ErrorKind::ArgumentConflict, message)
 }
 
+/// The error for two sources of tables, with the usage in its text.
+fn out_of_sources(command: &mut Command<'_>) -> Error {
+    let message = "--database and --tables: give one of them";
+    refused(command, ErrorKind::ArgumentConflict, message)
+}
+
+/// The error for an option in front of `serve`, with the usage in its text.
+fn out_of_place(command: &mut Command<'_>) -> Error {
+    let message = "the options of serve come behind it";
+    refused(command, ErrorKind::ArgumentConflict, message)
+}
+
 /// An error of the command line that says this, with the usage in its text, or that memory ran out.
 fn refused(command: &mut Command<'_>, kind: ErrorKind, message: &str) -> Error {
     match command.error(kind, message) {
@@ -207,6 +251,53 @@ fn command<'a>(alloc: Global) -> Result<Command<'a>, AllocError>
 /// The command line without its version.
 fn plans_words<'a>(alloc: Global) -> Result<Command<'a>, AllocError>
     ensures { IfOk result (λ c. app_of c ≡ plans_words_app) }
+{
+    let serve = serve_words(alloc)?;
+    document_words(alloc)?.subcommand(serve)
+}
+
+/// `serve`, with its options.
+fn serve_words<'a>(alloc: Global) -> Result<Command<'a>, AllocError>
+    ensures { IfOk result (λ c. app_of c ≡ serve_app) }
+{
+    let words = with(Ok(server(alloc)), workers(alloc));
+    let words = with(words, bounded_answer(alloc));
+    let words = with(words, database(alloc));
+    with(words, tables(alloc))
+}
+
+/// `serve` without options.
+fn server<'a>(alloc: Global) -> Command<'a>
+    ensures { app_of result ≡ server_app }
+{
+    let about = "Answers the requests of one HTTP connection, on standard input and output";
+    Command::new(alloc, "serve")
+        .about(about)
+        .override_usage("plans serve [OPTIONS]")
+}
+
+/// `--max-answer N`, of `serve`.
+fn bounded_answer<'a>(alloc: Global) -> Arg<'a>
+    ensures rule { rule_of result ≡ bounded_answer_rule }
+    ensures local { result.global ≡ false }
+{
+    max_answer(alloc).default_value("16777216")
+}
+
+/// `--tables FILE`.
+fn tables<'a>(alloc: Global) -> Arg<'a>
+    ensures rule { rule_of result ≡ tables_rule }
+    ensures local { result.global ≡ false }
+{
+    Arg::new(alloc, "tables")
+        .long("tables")
+        .value_name("FILE")
+        .help("Answers from these tables too, a list in JSON as a plan file has it")
+}
+
+/// The options for a document, and `migrate`.
+fn document_words<'a>(alloc: Global) -> Result<Command<'a>, AllocError>
+    ensures { IfOk result (λ c. app_of c ≡ document_app) }
 {
     let about =
         "Writes a plan file of version 1 as one of version 2, or of either as one of version 3";

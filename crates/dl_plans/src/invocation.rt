@@ -56,11 +56,8 @@ fn database<R: RandomSource + Eprint + AllocGlobal + Files>(
     }
 }
 
-/// Random numbers of this run to hash keys by.
-///
-/// # Errors
-/// As [`asked`].
-pub fn hashing<R: RandomSource + Eprint>(rt: &R) -> Result<RandomState, u8> {
+/// Random numbers of this run to hash keys by. Fails as [`asked`] does.
+fn hashing<R: RandomSource + Eprint>(rt: &R) -> Result<RandomState, u8> {
     match RandomState::new(rt) {
         Ok(hashing) => Ok(hashing),
         Err(_) => {
@@ -70,11 +67,8 @@ pub fn hashing<R: RandomSource + Eprint>(rt: &R) -> Result<RandomState, u8> {
     }
 }
 
-/// The tables of the database in this file.
-///
-/// # Errors
-/// As [`asked`].
-pub fn database_tables<R: Eprint + AllocGlobal + Files>(
+/// The tables of the database in this file. Fails as [`asked`] does.
+fn database_tables<R: Eprint + AllocGlobal + Files>(
     rt: &R,
     hashing: RandomState,
     file: &str,
@@ -121,11 +115,8 @@ fn given<R: Env + Print + Eprint + AllocGlobal>(rt: &R) -> Result<(Options, Opti
     }
 }
 
-/// The words behind the program's name.
-///
-/// # Errors
-/// If memory runs out, or a word isn't UTF-8.
-pub fn words<R: Env + AllocGlobal>(rt: &R) -> io::Result<Vec<String>> {
+/// The words behind the program's name. Fails if memory runs out, or a word isn't UTF-8.
+fn words<R: Env + AllocGlobal>(rt: &R) -> io::Result<Vec<String>> {
     let words = env::args(rt)?.skip(1).collect(rt.alloc())?;
     Ok(words)
 }
@@ -153,7 +144,7 @@ fn given_by<R: Print + Eprint + AllocGlobal>(
 }
 
 /// Says why the words give no options: memory ran out, or clap refuses them, or they ask for help, which it prints.
-pub fn tell_no_options<R: Print + Eprint>(rt: &R, error: &clap::Error) {
+fn tell_no_options<R: Print + Eprint>(rt: &R, error: &clap::Error) {
     let _ = match error.kind() {
         ErrorKind::OutOfMemory => eprintln!(rt; "{}", RunError::OutOfMemory),
         _ => error.print(rt),

@@ -35,13 +35,12 @@ pub use dl_migration::{MigrateFault, Target, migrate};
 pub use document::run;
 pub use fault::RunError;
 pub use history::run_history;
-pub use invocation::{asked, database_tables, hashing, tell_no_options, told, words};
+pub use invocation::{asked, told};
 pub use migration::run_migrate;
 pub use report::report_text;
 pub use request::{RequestFault, draw_request, serve_request};
 pub use script_text::run_script;
 pub use settings::Options;
-pub use status::{command_status, words_status};
 pub use streams::write_all;
 
 /// How many jobs the queue between plans and workers holds, if the program serves a plan file.

@@ -30,11 +30,15 @@ pub struct Options {
     pub migrate: Option<Target>,
     /// The file of a history, if the command line names one: to be drawn, and no document answered.
     pub history: Option<String>,
+    /// Whether to answer the requests of an HTTP connection, and no document.
+    pub serve: bool,
+    /// The file of the tables that answer each request, if the command line names one.
+    pub tables: Option<String>,
 }
 
 impl Options {
     /// The same, with the tables of this database, or of none.
-    pub(crate) fn with_database(self, database: Option<Tables>) -> Options
+    pub fn with_database(self, database: Option<Tables>) -> Options
         ensures { result ≡ record self { database = database } }
     {
         let Options {
@@ -47,6 +51,8 @@ impl Options {
             trace,
             migrate,
             history,
+            serve,
+            tables,
             ..
         } = self;
         Options {
@@ -60,6 +66,8 @@ impl Options {
             database,
             migrate,
             history,
+            serve,
+            tables,
         }
     }
 }

@@ -36,7 +36,7 @@ impl RunError {
 }
 
 /// The status for words that give no options: 0 if they ask for help, 3 if memory ran out, and else 2.
-pub fn command_status(error: &clap::Error) -> u8
+pub(crate) fn command_status(error: &clap::Error) -> u8
     ensures { result ≡ command_status (kind_of error.now) }
 {
     match error.kind() {
@@ -47,7 +47,7 @@ pub fn command_status(error: &clap::Error) -> u8
 }
 
 /// The status for a command line that can't be read: 3 if memory ran out, and else 2.
-pub fn words_status(error: &io::Error) -> u8
+pub(crate) fn words_status(error: &io::Error) -> u8
     ensures { result ≡ words_status (error_kind error.now) }
 {
     match error.kind() {

@@ -1,3 +1,4 @@
 mod Answered
 mod Filled
 mod ListTexts
+mod Served

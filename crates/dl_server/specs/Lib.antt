@@ -5,4 +5,3 @@ pub mod RefusalJson
 pub mod Responses
 pub mod Answers
 pub mod Source
-pub mod Words

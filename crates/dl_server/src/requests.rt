@@ -38,7 +38,7 @@ impl<'r, T: Threads + Wait + Sync> Requests<'r, T> {
     /// `AllocError` if memory runs out.
     ///
     /// # Examples
-    /// The service of the program `plan_server` answers so:
+    /// The service of a connection answers so:
     ///
     /// ```rust
     /// self.requests.reply_to(request, response)

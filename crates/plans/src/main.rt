@@ -1,7 +1,9 @@
-//! The program `plans`: it answers the document on standard input. Its parts are in `dl_plans`.
+//! The program `plans`: it answers the document on standard input, or the requests of a connection. Its parts are in `dl_plans`
+//! and `dl_server`.
 #![tactic(auto)]
 
 use dl_plans::{Options, RunError, asked, run, run_history, run_migrate, told};
+use dl_server::serve_standard;
 use std::fs::File;
 use std::hash::RandomState;
 use std::io;
@@ -13,6 +15,7 @@ use std::thread::Threads;
 
 fn main(rt: HostRuntime) -> ExitCode {
     let status = match asked(&rt) {
+        Ok((options, hashing)) if options.serve => serve_standard(&rt, hashing, options),
         Ok((options, hashing)) => {
             let (explain, max_answer) = (options.explain, options.max_answer);
             told(&rt, &written(&rt, hashing, options), explain, max_answer)

@@ -7,9 +7,9 @@ ghost use Rattle.http_server.specs.History.{History, IsDone};
 ghost use Rattle.dl_server.specs.Answers.{AnswersIt, IsAnswered};
 
 use crate::leave::Leave;
+use crate::requests::Requests;
 use bytes::Bytes;
 use dl_plans::{MOST_BYTES, Options};
-use dl_server::Requests;
 use http::Request;
 use http_server::{Config, Connection, Response, Service, State, serve};
 use http1::Limits;

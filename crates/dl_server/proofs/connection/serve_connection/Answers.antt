@@ -1,8 +1,8 @@
 use Rattle.std.proofs.lemmas.Result.{IfOk-from_err, on_ok_weaker}
 use Rattle.http_server.specs.Connection.{history}
-use Rattle.plan_server.specs.declared.connection.Answering.{Answering}
-use Rattle.plan_server.proofs.Served.{answered}
-use Rattle.plan_server.proofs.connection.serve_connection.Goals as goal
+use Rattle.dl_server.specs.declared.connection.Answering.{Answering}
+use Rattle.dl_server.proofs.Served.{answered}
+use Rattle.dl_server.proofs.connection.serve_connection.Goals as goal
 
 pub returns : goal.returns
 returns g c =

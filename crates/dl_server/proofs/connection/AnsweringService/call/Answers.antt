@@ -1,6 +1,6 @@
 use Rattle.std.proofs.Common.{refl, OnErr, Result, Ok, Err}
 use Rattle.std.proofs.lemmas.Result.{on_ok_weaker}
-use Rattle.plan_server.proofs.connection.AnsweringService.call.Goals as goal
+use Rattle.dl_server.proofs.connection.AnsweringService.call.Goals as goal
 
 on_any_err : {T E P : Type 0} (result : Result T E) → P → OnErr result P
 on_any_err (Ok x) p = tt

@@ -1,0 +1,6 @@
+use Rattle.std.proofs.Common.{ap, ◌∙◌}
+use Rattle.clap.specs.Simple.{app_of_fields}
+use Rattle.dl_plans.proofs.command.server.Goals as goal
+
+pub returns : goal.returns
+returns c = ap app_of_fields c.override_usage.ensures ∙ (ap app_of_fields c.about.ensures ∙ c.new.ensures.app)
