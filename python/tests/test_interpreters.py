@@ -106,6 +106,44 @@ assert len(done) == 4, done
 """
 
 
+# Loads of keys and outcomes that all interpreters share, so nobody may count the references to them.
+SHARED = """
+import sys
+sys.path[:] = {path!r}
+import asyncio
+import thrushscreen
+
+async def fetch(keys):
+    return [None if key % 2 else True for key in keys]
+
+async def main():
+    for _ in range(30):
+        loader = thrushscreen.DataLoader(fetch)
+        for _ in range(30):
+            await asyncio.gather(*[loader.load(key) for key in range(100)])
+
+asyncio.run(main())
+"""
+
+AT_ONCE = """
+import threading
+import _interpreters
+
+def run():
+    interpreter = _interpreters.create()
+    failed.append(_interpreters.exec(interpreter, SHARED))
+    _interpreters.destroy(interpreter)
+
+failed = []
+threads = [threading.Thread(target=run) for _ in range(4)]
+for thread in threads:
+    thread.start()
+for thread in threads:
+    thread.join()
+assert failed == [None] * 4, failed
+"""
+
+
 def has(*modules):
     try:
         return bool([__import__(module) for module in modules])
@@ -116,8 +154,8 @@ def has(*modules):
 class Interpreters(unittest.TestCase):
     def check(self, program):
         """In a process of its own, since a crash would end this one."""
-        text = LOAD.format(path=sys.path)
-        head = f"LOAD = {text!r}\n\n\ndef load():\n    exec(LOAD, {{}})\n\n"
+        text, shared = LOAD.format(path=sys.path), SHARED.format(path=sys.path)
+        head = f"LOAD = {text!r}\nSHARED = {shared!r}\n\n\ndef load():\n    exec(LOAD, {{}})\n\n"
         ran = subprocess.run([sys.executable, "-c", head + program], capture_output=True, text=True)
         self.assertEqual((ran.stderr, ran.returncode), ("", 0))
 
@@ -136,6 +174,12 @@ class Interpreters(unittest.TestCase):
 
         def test_interpreters_with_locks_of_their_own(self):
             self.check(OWN_LOCKS)
+
+    if sys.version_info >= (3, 13):
+
+        # CPython 3.12.1 can't: there such interpreters crash it without a loader, too.
+        def test_interpreters_that_load_at_once(self):
+            self.check(AT_ONCE)
 
 
 if __name__ == "__main__":

@@ -1,4 +1,4 @@
-/* What the extensions share: keys as the libraries know them, and the slot by which interpreters of their own take a module. */
+/* What the extensions share: references, keys as the libraries know them, and the slot by which interpreters of their own take a module. */
 #ifndef THRUSHSCREEN_KEYS_H
 #define THRUSHSCREEN_KEYS_H
 
@@ -8,6 +8,42 @@
 #include <string.h>
 
 #include "dl_types.h"
+
+/* From Python 3.12 on, interpreters with locks of their own share None, small numbers, short texts and such. Nobody counts the references
+ * to these: their counts are negative, as numbers of 32 bits. The macros of the limited API of 3.10 count each object, so two interpreters
+ * at once would count wrong. */
+#ifdef Py_LIMITED_API
+static inline void take_reference(PyObject *object)
+{
+    if (object != NULL && (int32_t)Py_REFCNT(object) >= 0) {
+        Py_INCREF(object);
+    }
+}
+
+static inline void drop_reference(PyObject *object)
+{
+    if (object != NULL && (int32_t)Py_REFCNT(object) >= 0) {
+        Py_DECREF(object);
+    }
+}
+
+static inline PyObject *taken_reference(PyObject *object)
+{
+    take_reference(object);
+    return object;
+}
+
+#undef Py_INCREF
+#undef Py_XINCREF
+#undef Py_NewRef
+#undef Py_DECREF
+#undef Py_XDECREF
+#define Py_INCREF(object) take_reference((PyObject *)(object))
+#define Py_XINCREF(object) take_reference((PyObject *)(object))
+#define Py_NewRef(object) taken_reference((PyObject *)(object))
+#define Py_DECREF(object) drop_reference((PyObject *)(object))
+#define Py_XDECREF(object) drop_reference((PyObject *)(object))
+#endif
 
 /* A key as a library knows it: the digits of a number. Python's dict says which keys are one. So nobody but the loader chooses the
  * library's keys, and its hashes need no seed. */
