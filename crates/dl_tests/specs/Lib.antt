@@ -1,2 +1,1 @@
-pub mod CountedTables
 pub mod NoRoom

@@ -28,14 +28,3 @@ pub(crate) fn assert_batches<R: Abort + Eprint>(
     }
     assert_is!(rt, &batches.get(number).is_none(), &true, about);
 }
-
-/// The number of batches of the history.
-pub(crate) fn count_batches(history: &History) -> u32 {
-    let batches = history.batches();
-    for number in 0..u32::MAX {
-        if batches.get(number).is_none() {
-            return number;
-        }
-    }
-    u32::MAX
-}

@@ -5,9 +5,9 @@
 //! cells show what somebody has set, whatever threads do; a desk takes the most keys that it may have. A call that no
 //! program makes answers as ever when it ran out of memory and you make it again.
 //!
-//! They share the tables of users that rows read, tables that count the questions to them, tables with no memory for
-//! one of them, many keys, plans and terms from their texts, and the texts of answers; how tests compare; and
-//! what they ask of the library below them, which refuses a call its n-th growth.
+//! They share the tables of users that rows read, tables with no memory for one of them, many keys, plans and terms from
+//! their texts, and the texts of answers; a gate that notes what it hears; how tests compare; and what they ask of the
+//! library below them, which refuses a call its n-th growth.
 #![tactic(auto)]
 
 #[cfg(test)]
@@ -16,11 +16,8 @@ mod batches;
 mod below;
 #[cfg(test)]
 mod comparison;
-mod counted_tables;
 #[cfg(test)]
 mod evaluations;
-#[cfg(test)]
-mod handovers;
 #[cfg(test)]
 mod loader;
 mod no_room;
@@ -43,18 +40,19 @@ mod stage;
 #[cfg(test)]
 mod texts;
 #[cfg(test)]
+mod told;
+#[cfg(test)]
 mod users;
 #[cfg(test)]
 mod workers;
 
 #[cfg(test)]
 pub use comparison::{ids_text, is_same};
-pub use counted_tables::CountedTables;
 pub use no_room::NoRoom;
 #[cfg(test)]
 pub use numbered::numbered_keys;
 #[cfg(test)]
-pub use plans::{FRIENDS, ONE, U1, U2, plan, term};
+pub use plans::{FRIENDS, ONE, TWO_FRIENDS, U1, U2, plan, term};
 #[cfg(test)]
 pub use refusals::{MOST_GROWTHS, Refusal};
 #[cfg(test)]

@@ -14,6 +14,9 @@ pub const U2: &str = r#"{"load":["user","u2"]}"#;
 /// The friends of `u1`.
 pub const FRIENDS: &str = r#"{"each":[{"load":["user","u1"]},"friends","user"]}"#;
 
+/// The rows of those friends, the users `u2` and `u3`.
+pub const TWO_FRIENDS: &str = r#"[{"best":"u1","friends":[],"name":"Bob"},{"name":"Cy"}]"#;
+
 /// A plan of the user `u1`.
 pub const ONE: &str = r#"[{"eval":{"load":["user","u1"]}}]"#;
 

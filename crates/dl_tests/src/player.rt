@@ -7,14 +7,16 @@ ghost use Rattle.dl_desk.specs.Service.{Answers};
 ghost use Rattle.dl_loader.specs.Opening.{Names};
 ghost use Rattle.dl_workers.specs.Seats.{IsSenderOf, IsTakerOf};
 
+use crate::loader::player::Scene as Calls;
 use crate::stage::Stage;
-use crate::{ADA, answer_text, assert_is, made_once, outcome_text};
-use dl_desk::{FetchKey, Limits};
+use crate::told::Told;
+use crate::{ADA, Refusal, answer_text, assert_is, made_once, outcome_text};
+use dl_desk::FetchKey;
 use dl_haxl::{LoadFuture, RunFault, run_inline, run_term};
 use dl_loader::{CloseFault, History, Loader, LoaderName, Opening, Pass};
 use dl_source::Source;
 use dl_terms::Answer;
-use dl_workers::{JobQueue, NoGate, Sender, Taker, Tally, WorkerEnd, work};
+use dl_workers::{JobQueue, Sender, Taker, Tally, WorkerEnd, work};
 use futures::task::Poll;
 use futures::test::MockTask;
 use std::alloc::{AllocError, AllocGlobal, Global};
@@ -40,6 +42,8 @@ pub(crate) struct Turn<'a> {
     pub(crate) jobs: u64,
     /// How the worker at the queue ends.
     pub(crate) end: WorkerEnd,
+    /// What the worker's gate hears, as `Told` notes it.
+    pub(crate) told: u32,
 }
 
 /// What a term may give if the library refuses its evaluation a growth. The next growth is free, so the caller can then
@@ -60,6 +64,8 @@ pub(crate) enum By {
     WithFuture,
     /// A worker on a thread of its own, while the first caller evaluates the term and then shuts the queue.
     Worker,
+    /// The same, but the worker ends two batches by the law of one event, as `end_by_law` does.
+    Law,
     /// Nobody: the first caller shuts the queue before.
     Nobody,
     /// The second caller, which polls a run of the term by hand, until the answer or until a poll runs out of memory.
@@ -92,11 +98,13 @@ struct Caller<L: LoaderName> {
     given: Option<Given>,
 }
 
-/// A worker with the seat of its queue's taker, and how it ended.
+/// A worker with the seat of its queue's taker, what its gate heard, and how it ended.
 #[derive(Drop)]
 struct Worker<L: LoaderName> {
     pass: Pass<L>,
     seats: Vec<Taker>,
+    is_by_law: bool,
+    gate: Told,
     end: Option<WorkerEnd>,
 }
 
@@ -107,12 +115,10 @@ pub(crate) fn play_over<
 >(
     stage: &Stage<'_, R>,
     source: &S,
-    (max_batch, max_cells, max_calls): (u32, u32, u32),
+    most: (u32, u32, u32),
     turns: &[Turn<'_>],
 ) -> Result<History, CloseFault> {
-    let limits = Limits::new(max_batch, max_cells, max_calls).expect(stage.rt, "no limits");
-    let opening = Opening::new(stage.alloc, stage.hashing, source, limits, 2);
-    let opening = opening.expect(stage.rt, "no opening");
+    let opening = stage.opening(source, most, 2);
     play::<Brand, _, _>(stage, source, opening, turns)
 }
 
@@ -162,7 +168,7 @@ impl<
                 self.stage.assert_given(&given, turn);
             }
             By::WithFuture => self.evaluate_with_future(passes, turn),
-            By::Worker | By::Nobody => self.hand_over(passes, turn),
+            By::Worker | By::Law | By::Nobody => self.hand_over(passes, turn),
             By::Hand => self.poll_run(passes, turn),
         }
     }
@@ -196,6 +202,8 @@ impl<
         let worker = Worker {
             pass: passes.pop().expect(rt, "no pass"),
             seats: takers,
+            is_by_law: matches!(turn.by, By::Law),
+            gate: Told::new(),
             end: None,
         };
         let caller = Caller {
@@ -214,6 +222,7 @@ impl<
         self.stage.assert_given(&given, turn);
         assert_is!(rt, &finished, &tally, turn.answer);
         assert_is!(rt, &worker.end, &Some(turn.end), turn.answer);
+        assert_is!(rt, &worker.gate.digits(), &turn.told, turn.answer);
         passes.push(caller.pass).expect(rt, "no room");
         passes.push(worker.pass).expect(rt, "no room");
     }
@@ -337,7 +346,7 @@ impl Given {
 }
 
 /// Has the worker work until the queue is shut and empty.
-fn work_until_shut<L: LoaderName, S: Source, R: Wait>(
+fn work_until_shut<L: LoaderName, S: Source, R: Abort + Eprint + Wait>(
     rt: &R,
     alloc: Global,
     loader: &Loader<L>,
@@ -349,6 +358,19 @@ fn work_until_shut<L: LoaderName, S: Source, R: Wait>(
     requires takers { All (IsTakerOf queue.now) worker.seats.items × (length worker.seats.items ≡ 1) }
     ensures takers { All (IsTakerOf queue.now) result.seats.items × (length result.seats.items ≡ 1) }
 {
+    if worker.is_by_law {
+        let nothing = Refusal::of_nothing(alloc);
+        let calls = Calls {
+            rt,
+            alloc,
+            refusal: &nothing,
+            source,
+            loader,
+        };
+        end_by_law(&calls, &mut worker.pass, queue, &mut worker.seats[0]);
+        worker.end = Some(WorkerEnd::Done { batches: 2 });
+        return worker;
+    }
     worker.end = Some(work(
         rt,
         alloc,
@@ -357,7 +379,31 @@ fn work_until_shut<L: LoaderName, S: Source, R: Wait>(
         &mut worker.pass,
         queue,
         &mut worker.seats[0],
-        &NoGate,
+        &worker.gate,
     ));
     worker
+}
+
+/// Takes the jobs of the first two users, each alone in its batch. Ends that of the first by what the source answers and
+/// fails that of the second, both by the law of one event, which wakes whoever waits. Right after that it stops the
+/// loader: whoever waits for an outcome gets it still.
+fn end_by_law<L: LoaderName, S: Source, R: Abort + Eprint + Wait>(
+    calls: &Calls<'_, L, S, R>,
+    pass: &mut Pass<L>,
+    queue: &JobQueue,
+    taker: &mut Taker,
+)
+    requires source { Answers (S.answer calls.now.source.now) L.service }
+    requires seat { IsTakerOf queue.now taker.old }
+    ensures { IsTakerOf queue.now taker.new }
+{
+    let first = queue.take(calls.rt, taker);
+    assert!(calls.rt; first.is_some(), "no job");
+    calls.make(pass, "law settle 0 u1", "done");
+    calls.make(pass, "law fail 1 u2", "done");
+    calls.make(pass, "stop", "");
+    let second = queue.take(calls.rt, taker);
+    assert!(calls.rt; second.is_some(), "no second job");
+    let third = queue.take(calls.rt, taker);
+    assert!(calls.rt; third.is_none(), "a third job");
 }

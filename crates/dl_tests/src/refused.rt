@@ -4,10 +4,9 @@
 //! They are then out of memory, or answer as ever. `tests/calls` runs this above `tests/refuse.c`. Without that library
 //! nothing is refused, and each call happens once.
 
-use crate::evaluations::TWO_FRIENDS;
 use crate::player::{By, Turn, play_over};
 use crate::stage::Setting;
-use crate::{BOB, FRIENDS, MOST_GROWTHS, Refusal, U2};
+use crate::{BOB, FRIENDS, MOST_GROWTHS, Refusal, TWO_FRIENDS, U2};
 use dl_workers::WorkerEnd;
 use std::slice;
 
@@ -23,6 +22,7 @@ const FRIENDS_OF_ONE: Turn<'static> = Turn {
     capacity: 2,
     jobs: 2,
     end: WorkerEnd::Done { batches: 2 },
+    told: 0,
 };
 
 /// If that runs out of memory it doesn't happen again: it may have made calls.

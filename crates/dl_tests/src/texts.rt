@@ -29,7 +29,7 @@ fn eval_fault_text(alloc: Global, fault: &EvalFault) -> Result<String, AllocErro
 }
 
 /// Why a batch failed.
-fn cause(fault: &BatchFault) -> &str {
+pub(crate) fn cause(fault: &BatchFault) -> &str {
     match fault {
         BatchFault::Source(text) => text.as_str(),
         BatchFault::Memory => "no memory",

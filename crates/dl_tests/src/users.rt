@@ -1,7 +1,8 @@
 //! The tables of users that worked rows read, and the texts of values and outcomes in them.
 
+use crate::texts::cause;
 use dl_source::Tables;
-use dl_values::{BatchFault, Json, Outcome, has_float};
+use dl_values::{Json, Outcome, has_float};
 use serde_json::Value;
 use std::alloc::{AllocError, Global};
 use std::hash::RandomState;
@@ -39,15 +40,6 @@ pub fn outcome_text(alloc: Global, outcome: &Outcome) -> Result<String, AllocErr
     match outcome {
         Outcome::Value(value) => value.to_text(alloc),
         Outcome::KeyError(text) => format!(in alloc; "error {}", text.as_str()),
-        Outcome::BatchFailed(fault) => fault_text(alloc, fault),
-    }
-}
-
-/// Why a batch failed: what broke the source, or that there was no memory or that it wasn't sent.
-fn fault_text(alloc: Global, fault: &BatchFault) -> Result<String, AllocError> {
-    match fault {
-        BatchFault::Source(text) => format!(in alloc; "batch {}", text.as_str()),
-        BatchFault::Memory => String::from_str(alloc, "memory"),
-        BatchFault::Unsent => String::from_str(alloc, "unsent"),
+        Outcome::BatchFailed(fault) => format!(in alloc; "batch {}", cause(fault)),
     }
 }

@@ -1,6 +1,3 @@
-//! The job queue and the fetch workers of `dl_workers`: worked rows of calls on one thread, exchanges of
-//! jobs between many threads, and a worker that ends the jobs of a caller.
+//! The job queue of `dl_workers`: worked rows of calls on one thread. The player of terms has workers take jobs.
 
-mod exchanges;
 mod queue;
-mod work;

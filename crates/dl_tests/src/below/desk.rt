@@ -1,8 +1,8 @@
 //! Desks, by calls in two steps. With the most keys these allocate once at their largest. No program makes them, so their
 //! growths are refused here.
 
-use crate::loader::stage::Stage;
-use crate::{Refusal, assert_is, made, numbered_keys};
+use crate::stage::{Setting, Stage};
+use crate::{assert_is, made, numbered_keys};
 use dl_desk::{Desk, DeskFault, DeskPrime, DeskReply, FetchKey, Limits};
 use std::io::Eprint;
 use std::process::Abort;
@@ -16,8 +16,8 @@ static SIZES: [(u32, usize); 2] = [(MOST, 1), (1, 65_536)];
 #[test]
 fn the_most_keys_are_made_ready(rt: HostRuntime) {
     let keys = numbered_keys(rt.alloc(), MOST).expect(&rt, "no keys");
-    let nothing = Refusal::of_nothing(rt.alloc());
-    let stage = Stage::new(&rt, rt.alloc(), &nothing);
+    let setting = Setting::new(&rt, rt.alloc());
+    let stage = setting.stage(&rt);
     for (max_batch, batches) in &SIZES {
         let mut desk = stage.new_desk(*max_batch);
         let (loads, jobs) = stage.send_ready(&mut desk, keys.as_slice());

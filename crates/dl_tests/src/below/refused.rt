@@ -5,7 +5,7 @@
 //! time. `tests/calls` runs this above `tests/refuse.c`. Without that library nothing is refused, and each call happens
 //! once.
 
-use crate::loader::stage::Stage;
+use crate::stage::{Setting, Stage};
 use crate::{MOST_GROWTHS, Refusal, USERS, assert_is, made, numbered_keys};
 use dl_cells::CellRow;
 use dl_desk::DeskPrime;
@@ -19,9 +19,10 @@ const NUMBERED: &str = r#"[{"name":"user","maxBatchSize":7,"rows":[["u1",1]]}]"#
 
 #[test]
 fn calls_without_a_loader(rt: HostRuntime) {
+    let setting = Setting::new(&rt, rt.alloc());
     for nth in 1..MOST_GROWTHS {
         let refusal = Refusal::of_each(rt.alloc(), nth);
-        let stage = Stage::new(&rt, rt.alloc(), &refusal);
+        let stage = setting.refused(&rt, &refusal);
         stage.use_desk();
         stage.read_tables();
         if !refusal.has_met() {

@@ -8,8 +8,8 @@ ghost use Rattle.dl_source.specs.Fetched.{source_of};
 use super::player::Scene;
 use super::texts::{user, users};
 use crate::{assert_is, json};
-use dl_desk::{FetchKey, Job, Keys, Outcome};
-use dl_loader::{Ask, CallFault, GiveUp, LoaderName, Pass, PrimeReply, laws};
+use dl_desk::{Job, Keys, Outcome};
+use dl_loader::{Ask, CallFault, GiveUp, LoaderName, Pass, PrimeReply, Settled, laws};
 use dl_source::{Fetched, Source, fetch_job};
 use std::io::Eprint;
 use std::process::Abort;
@@ -22,6 +22,15 @@ struct Way {
     is_by_law: bool,
     /// The library refuses it a growth.
     is_refused: bool,
+}
+
+/// What came of a call.
+#[derive(Clone, Copy)]
+enum Made {
+    Done,
+    Rejected(CallFault),
+    /// It ran out of memory by a refusal, so it has to be made again.
+    Again,
 }
 
 impl<'a, L: LoaderName, S: Source, R: Abort + Eprint + Wait> Scene<'a, L, S, R> {
@@ -45,24 +54,19 @@ impl<'a, L: LoaderName, S: Source, R: Abort + Eprint + Wait> Scene<'a, L, S, R> 
             is_refused: false,
         };
         let made = match self.call(pass, name, words, refused) {
-            None => self.call(pass, name, words, again),
+            Made::Again => self.call(pass, name, words, again),
             made => made,
         };
-        let text = match made.expect(self.rt, "refused nothing") {
-            Ok(()) => String::from_str(self.alloc, "done"),
-            Err(fault) => format!(in self.alloc; "{fault:?}"),
+        let text = match made {
+            Made::Done => String::from_str(self.alloc, "done"),
+            Made::Rejected(fault) => format!(in self.alloc; "{fault:?}"),
+            Made::Again => panic!(self.rt; "refused nothing"),
         };
         text.expect(self.rt, "no memory")
     }
 
-    /// Makes the call of this name with these words. `None` if it runs out of memory by a refusal.
-    fn call(
-        &self,
-        pass: &mut Pass<L>,
-        name: &str,
-        words: &str,
-        way: Way,
-    ) -> Option<Result<(), CallFault>>
+    /// Makes the call of this name with these words.
+    fn call(&self, pass: &mut Pass<L>, name: &str, words: &str, way: Way) -> Made
         requires { Answers (S.answer self.now.source.now) L.service }
     {
         let (rt, alloc) = (self.rt, self.alloc);
@@ -120,19 +124,14 @@ impl<'a, L: LoaderName, S: Source, R: Abort + Eprint + Wait> Scene<'a, L, S, R> 
     }
 
     /// As `ask`, of a call that borrows nothing but the source.
-    fn ask_owned(
-        &self,
-        pass: &mut Pass<L>,
-        ask: Ask<'a, S>,
-        way: Way,
-    ) -> Option<Result<(), CallFault>>
+    fn ask_owned(&self, pass: &mut Pass<L>, ask: Ask<'a, S>, way: Way) -> Made
         requires { IfSome (source_asked ask) (λ source. Answers (S.answer source) L.service) }
     {
         self.ask(pass, ask, way)
     }
 
-    /// Makes a call. `None` if it runs out of memory by a refusal.
-    fn ask(&self, pass: &mut Pass<L>, ask: Ask<'_, S>, way: Way) -> Option<Result<(), CallFault>>
+    /// Makes a call in a way.
+    fn ask(&self, pass: &mut Pass<L>, ask: Ask<'_, S>, way: Way) -> Made
         requires { IfSome (source_asked ask) (λ source. Answers (S.answer source) L.service) }
     {
         let name = if way.is_by_law {
@@ -148,81 +147,67 @@ impl<'a, L: LoaderName, S: Source, R: Abort + Eprint + Wait> Scene<'a, L, S, R> 
         } else {
             self.make_call(pass, ask)
         };
-        let is_out_of_memory = matches!(made, Err(CallFault::OutOfMemory));
+        let is_out_of_memory = matches!(made, Some(CallFault::OutOfMemory));
         if self.refusal.is_again(self.rt, name, is_out_of_memory) {
-            None
-        } else {
-            Some(made)
+            return Made::Again;
+        }
+        match made {
+            None => Made::Done,
+            Some(fault) => Made::Rejected(fault),
         }
     }
 
-    /// Makes a call on the locked book. No cell refuses its outcome.
-    fn make_event(&self, pass: &mut Pass<L>, ask: Ask<'_, S>) -> Result<(), CallFault>
+    /// Makes a call on the locked book. Answers why it is rejected, if it is. No cell refuses its outcome.
+    fn make_event(&self, pass: &mut Pass<L>, ask: Ask<'_, S>) -> Option<CallFault>
         requires { IfSome (source_asked ask) (λ source. Answers (S.answer source) L.service) }
     {
         let mut book = self.loader.lock(self.rt);
         match laws::event(self.alloc, self.loader, &mut *book, pass, ask) {
             Ok((_, refused)) => {
                 assert_is!(self.rt, &refused, &0, "cells that refuse");
-                Ok(())
+                None
             }
-            Err((fault, _)) => Err(fault),
+            Err((fault, _)) => Some(fault),
         }
     }
 
-    /// Makes a call by its own name. No cell refuses its outcome.
-    fn make_call(&self, pass: &mut Pass<L>, ask: Ask<'_, S>) -> Result<(), CallFault>
+    /// Makes a call by its own name. Answers why it is rejected, if it is. No cell refuses its outcome.
+    fn make_call(&self, pass: &mut Pass<L>, ask: Ask<'_, S>) -> Option<CallFault>
         requires { IfSome (source_asked ask) (λ source. Answers (S.answer source) L.service) }
     {
         let (rt, alloc, loader) = (self.rt, self.alloc, self.loader);
         match ask {
-            Ask::Load(key) => {
-                drop(loader.load(rt, alloc, pass, key)?);
-                Ok(())
-            }
-            Ask::LoadMany(keys) => {
-                drop(loader.load_many(rt, alloc, pass, keys)?);
-                Ok(())
-            }
-            Ask::Prime(key, outcome) => self.prime(pass, key, outcome),
-            Ask::Clear(key) => loader.clear(rt, alloc, pass, key),
-            Ask::ClearAll => loader.clear_all(rt, alloc, pass),
-            Ask::Dispatch => {
-                drop(loader.dispatch(rt, alloc, pass)?);
-                Ok(())
-            }
-            Ask::Settle(fetched) => self.settle(pass, fetched),
-            Ask::Fail(job, why) => self.fail(pass, job, why),
+            Ask::Load(key) => loader.load(rt, alloc, pass, key).err(),
+            Ask::LoadMany(keys) => loader.load_many(rt, alloc, pass, keys).err(),
+            Ask::Prime(key, outcome) => self.primed(loader.prime(rt, alloc, pass, key, outcome)),
+            Ask::Clear(key) => loader.clear(rt, alloc, pass, key).err(),
+            Ask::ClearAll => loader.clear_all(rt, alloc, pass).err(),
+            Ask::Dispatch => loader.dispatch(rt, alloc, pass).err(),
+            Ask::Settle(fetched) => self.ended(loader.settle(rt, alloc, pass, fetched)),
+            Ask::Fail(job, why) => self.ended(loader.fail(rt, alloc, pass, job, why)),
         }
     }
 
-    fn prime(&self, pass: &mut Pass<L>, key: &FetchKey, outcome: Outcome) -> Result<(), CallFault> {
-        let reply = self.loader.prime(self.rt, self.alloc, pass, key, outcome)?;
-        if let PrimeReply::Primed { shown, .. } = reply {
-            assert!(self.rt; shown, "the cell refuses");
+    /// Why a key wasn't primed. Its cell doesn't refuse the outcome.
+    fn primed(&self, made: Result<PrimeReply, CallFault>) -> Option<CallFault> {
+        match made {
+            Ok(PrimeReply::Primed { shown, .. }) => {
+                assert!(self.rt; shown, "the cell refuses");
+                None
+            }
+            Ok(_) => None,
+            Err(fault) => Some(fault),
         }
-        Ok(())
     }
 
-    fn settle(&self, pass: &mut Pass<L>, fetched: Fetched<'_, S>) -> Result<(), CallFault>
-        requires { Answers (S.answer (source_of fetched)) L.service }
-    {
-        match self.loader.settle(self.rt, self.alloc, pass, fetched) {
+    /// Why a batch wasn't ended. No cell refuses its outcome.
+    fn ended<T: Drop>(&self, made: Result<Settled, (CallFault, T)>) -> Option<CallFault> {
+        match made {
             Ok(settled) => {
                 assert_is!(self.rt, &settled.refused, &0, "cells that refuse");
-                Ok(())
+                None
             }
-            Err((fault, _)) => Err(fault),
-        }
-    }
-
-    fn fail(&self, pass: &mut Pass<L>, job: Job, why: GiveUp) -> Result<(), CallFault> {
-        match self.loader.fail(self.rt, self.alloc, pass, job, why) {
-            Ok(settled) => {
-                assert_is!(self.rt, &settled.refused, &0, "cells that refuse");
-                Ok(())
-            }
-            Err((fault, _)) => Err(fault),
+            Err((fault, _)) => Some(fault),
         }
     }
 }

@@ -1,7 +1,7 @@
 //! The history of a closed loader, as text.
 
-use super::stage::Stage;
 use crate::made;
+use crate::stage::Stage;
 use dl_loader::{EntryKind, History, MOST_CALLERS};
 use std::io::Eprint;
 use std::process::Abort;

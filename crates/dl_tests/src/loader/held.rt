@@ -1,9 +1,12 @@
-//! The end of a batch or a stop while a caller has a ticket, which it then reads its outcome by.
+//! Several calls of one step: the end of a batch or a stop while a caller has a ticket, which it then reads its outcome
+//! by; and as many calls as there may be.
 
 ghost use Rattle.dl_desk.specs.Service.{Answers};
 
 use super::player::Scene;
 use super::texts::user;
+use crate::assert_is;
+use dl_desk::LARGEST_LIMIT;
 use dl_loader::{LoaderName, Pass};
 use dl_source::Source;
 use std::io::Eprint;
@@ -27,5 +30,15 @@ impl<'a, L: LoaderName, S: Source, R: Abort + Eprint + Wait> Scene<'a, L, S, R> 
             self.loader.stop(self.rt);
         }
         self.read(pass, &mut ticket)
+    }
+
+    /// Makes the most calls that there may be, which all succeed, and answers what the next one gives.
+    pub(super) fn fill(&self, pass: &mut Pass<L>) -> String {
+        for _ in 0..LARGEST_LIMIT {
+            let made = self.loader.clear_all(self.rt, self.alloc, pass);
+            assert_is!(self.rt, &made, &Ok(()), "call");
+        }
+        let next = self.loader.clear_all(self.rt, self.alloc, pass);
+        format!(in self.alloc; "{next:?}").expect(self.rt, "no memory")
     }
 }

@@ -18,12 +18,12 @@ use std::sync::Wait;
 
 /// What calls need, and what the library refuses them, if anything. A call that runs out of memory happens again.
 #[derive(Drop)]
-pub(super) struct Scene<'a, L: LoaderName, S: Source, R: Abort + Wait> {
-    pub(super) rt: &'a R,
-    pub(super) alloc: Global,
-    pub(super) refusal: &'a Refusal,
-    pub(super) source: &'a S,
-    pub(super) loader: &'a Loader<L>,
+pub(crate) struct Scene<'a, L: LoaderName, S: Source, R: Abort + Wait> {
+    pub(crate) rt: &'a R,
+    pub(crate) alloc: Global,
+    pub(crate) refusal: &'a Refusal,
+    pub(crate) source: &'a S,
+    pub(crate) loader: &'a Loader<L>,
 }
 
 impl<'a, L: LoaderName, S: Source, R: Abort + Eprint + Wait> Scene<'a, L, S, R> {
@@ -39,7 +39,7 @@ impl<'a, L: LoaderName, S: Source, R: Abort + Eprint + Wait> Scene<'a, L, S, R> 
     }
 
     /// Makes one call, which must answer `want`.
-    pub(super) fn make(&self, pass: &mut Pass<L>, call: &str, want: &str)
+    pub(crate) fn make(&self, pass: &mut Pass<L>, call: &str, want: &str)
         requires { Answers (S.answer self.now.source.now) L.service }
     {
         let (name, words) = call.split_once(' ').unwrap_or((call, ""));
@@ -47,6 +47,7 @@ impl<'a, L: LoaderName, S: Source, R: Abort + Eprint + Wait> Scene<'a, L, S, R> 
             "look" | "wait" | "waitWithBook" => self.read_held(pass, name, words),
             "hold" => self.hold(pass, words),
             "stop" => self.stop(),
+            "fill" => self.fill(pass),
             "tells" => self.told(pass),
             "law" => {
                 let (name, words) = words.split_once(' ').unwrap_or((words, ""));

@@ -4,9 +4,9 @@
 //! time. `tests/calls` runs this above `tests/refuse.c`. Without that library nothing is refused, and each call happens
 //! once.
 
-use crate::loader::stage::Stage;
+use crate::loader::play_over;
 use crate::loader::step::{Part, Row};
-use crate::loader::{play_over, users};
+use crate::stage::Setting;
 use crate::{MOST_GROWTHS, Refusal};
 
 /// The calls of one caller.
@@ -117,14 +117,14 @@ static TABLES: [Option<&str>; 2] = [None, Some("s")];
 
 #[test]
 fn calls_of_a_loader(rt: HostRuntime) {
-    let users = users(&rt, rt.alloc());
+    let setting = Setting::new(&rt, rt.alloc());
     for nth in 1..MOST_GROWTHS {
         let refusal = Refusal::of_each(rt.alloc(), nth);
         for table in &TABLES {
-            let mut stage = Stage::new(&rt, rt.alloc(), &refusal);
+            let mut stage = setting.refused(&rt, &refusal);
             stage.table = *table;
             for row in &ROWS {
-                play_over(&stage, &users, row);
+                play_over(&stage, &setting.users, row);
             }
         }
         if !refusal.has_met() {

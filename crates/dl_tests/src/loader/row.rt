@@ -5,9 +5,9 @@ ghost use Rattle.dl_loader.specs.Opening.{Names};
 
 use super::closed_history::history_text;
 use super::player::Scene;
-use super::stage::Stage;
 use super::step::Part;
 use crate::assert_is;
+use crate::stage::Stage;
 use dl_loader::{CloseFault, History, Loader, LoaderName, Opening, Pass};
 use dl_source::Source;
 use std::io::Eprint;

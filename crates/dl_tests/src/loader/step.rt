@@ -6,8 +6,8 @@
 //! book. If the loader makes the call, the answer is `done`: the history says what it replied.
 //!
 //! There are other texts too. `look u1`, `wait u1` and `waitWithBook u1` load a key that the loader holds and read its
-//! outcome. `hold`, with the words `end` and `stop`, makes several calls (`held.rt`). `stop` stops the loader. And `tells`
-//! gives the caller's pass as text.
+//! outcome. `hold`, with the words `end` and `stop`, and `fill` make several calls (`held.rt`). `stop` stops the loader. And
+//! `tells` gives the caller's pass as text.
 
 /// A caller, its call, and what that must answer.
 pub(super) type Step = (usize, &'static str, &'static str);

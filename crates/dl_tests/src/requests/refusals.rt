@@ -1,6 +1,5 @@
 //! Plans that `serve` rejects, at both sides of each limit, and batches that nobody fetches.
 
-use crate::NoRoom;
 use crate::requests::row::{Row, try_row};
 use crate::stage::Setting;
 use dl_haxl::RunFault;
@@ -129,7 +128,7 @@ fn plans_that_are_refused(rt: HostRuntime) {
     for row in &ROWS {
         try_row(&stage, &setting.users, &NoGate, row);
     }
-    let shop = NoRoom::new(setting.copy_of_users(&rt));
+    let shop = stage.users_without_shop();
     for row in &NOT_FETCHED {
         try_row(&stage, &shop, &NoGate, row);
     }

@@ -1,6 +1,6 @@
 //! Rows of plans, and how `serve` serves them.
 
-use crate::batches::{Batch, assert_batches, count_batches};
+use crate::batches::{Batch, assert_batches};
 use crate::stage::Stage;
 use crate::{answer_text, assert_is};
 use dl_desk::Limits;
@@ -39,33 +39,28 @@ pub(crate) struct Row {
     pub(crate) calls: Option<usize>,
 }
 
-/// Serves the plans of a row as often as it says, each time with the report that it says. Answers the number of batches
-/// in the histories of all these reports.
+/// Serves the plans of a row as often as it says, each time with the report that it says, or the fault.
 pub(crate) fn try_row<S: Source + Sync, G: Gate + Sync, R: Abort + Eprint + Threads + Wait + Sync>(
     stage: &Stage<'_, R>,
     source: &S,
     gate: &G,
     row: &Row,
-) -> u32 {
-    let mut batches: u32 = 0;
+) {
     for workers in row.workers {
         for _ in 0..row.times {
-            let served = serve_row(stage, source, gate, *workers, row);
-            batches = batches.saturating_add(served);
+            serve_row(stage, source, gate, *workers, row);
         }
     }
-    batches
 }
 
-/// Serves the plans of a row with this many workers. There is the report that the row says, or the fault, and the answer
-/// is the number of batches.
+/// Serves the plans of a row with this many workers. There is the report that the row says, or the fault.
 fn serve_row<S: Source + Sync, G: Gate + Sync, R: Abort + Eprint + Threads + Wait + Sync>(
     stage: &Stage<'_, R>,
     source: &S,
     gate: &G,
     workers: u32,
     row: &Row,
-) -> u32 {
+) {
     let (rt, alloc, hashing) = (stage.rt, stage.alloc, stage.hashing);
     let (max_batch, max_cells, max_calls) = row.most;
     let limits = Limits::new(max_batch, max_cells, max_calls);
@@ -77,15 +72,14 @@ fn serve_row<S: Source + Sync, G: Gate + Sync, R: Abort + Eprint + Threads + Wai
         max_answer: None,
     };
     let plans = stage.plans(row.plans);
-    let (fault, batches) = match serve(rt, alloc, hashing, source, setup, plans, gate) {
+    let fault = match serve(rt, alloc, hashing, source, setup, plans, gate) {
         Ok(report) => {
             stage.assert_report(&report, row);
-            (None, count_batches(report.history()))
+            None
         }
-        Err(fault) => (Some(fault), 0),
+        Err(fault) => Some(fault),
     };
     assert_is!(rt, &fault, &row.fault, row.about);
-    batches
 }
 
 impl<R: Abort + Eprint> Stage<'_, R> {

@@ -1,7 +1,8 @@
 //! Closes of a loader, some of which fail, and what the last one leaves.
 
-use crate::loader::play_rows;
 use crate::loader::step::{Part, Row};
+use dl_desk::LARGEST_LIMIT;
+use dl_loader::MOST_CALLERS;
 
 /// The load of the first key, and a close, which fails.
 const BEGUN: Part = Part {
@@ -10,7 +11,7 @@ const BEGUN: Part = Part {
     close: "Unsettled { batch: 0 }",
 };
 
-static ROWS: [Row; 5] = [
+pub(super) static ROWS: [Row; 3] = [
     Row {
         about: "a close once a batch has failed",
         limits: (2, 8, 16),
@@ -47,42 +48,20 @@ static ROWS: [Row; 5] = [
         ],
     },
     Row {
-        about: "a loader with the greatest limits",
-        limits: (1, 65_536, 65_536),
-        callers: 1,
-        parts: &[BEGUN],
-    },
-    Row {
-        about: "a loader with the least limits",
-        limits: (1, 1, 1),
-        callers: 1,
-        parts: &[BEGUN],
-    },
-    Row {
-        about: "a close with as many callers as there may be",
-        limits: (1, 1, 2),
-        callers: 32,
+        about: "a close with the most calls of one log and the most callers",
+        limits: (LARGEST_LIMIT, LARGEST_LIMIT, LARGEST_LIMIT),
+        callers: MOST_CALLERS,
         parts: &[
             Part {
-                steps: &[(0, "clear u1", "done"), (31, "clear u1", "done")],
+                steps: &[(0, "fill", "Err(LogFull { limit: 65536 })")],
                 passes: 31,
                 close: "PassesMissing { want: 32, got: 31 }",
             },
             Part {
                 steps: &[],
                 passes: 32,
-                close: concat!(
-                    "0 caller 0 clear user/u1: done\n",
-                    "1 caller 31 clear user/u1: done\n",
-                    "caller 0: 0 of [0]\n",
-                    "caller 31: 1 of [1]\n",
-                ),
+                close: ", 65532, 65533, 65534, 65535]\n",
             },
         ],
     },
 ];
-
-#[test]
-fn rows_of_closes(rt: HostRuntime) {
-    play_rows(&rt, rt.alloc(), &ROWS);
-}

@@ -1,9 +1,8 @@
 //! Loads and clears, and reads of outcomes.
 
-use crate::loader::play_rows;
 use crate::loader::step::{Part, Row};
 
-static ROWS: [Row; 2] = [
+pub(super) static ROWS: [Row; 2] = [
     Row {
         about: "a load to its end",
         limits: (2, 8, 16),
@@ -53,8 +52,3 @@ static ROWS: [Row; 2] = [
         }],
     },
 ];
-
-#[test]
-fn rows_of_loads(rt: HostRuntime) {
-    play_rows(&rt, rt.alloc(), &ROWS);
-}

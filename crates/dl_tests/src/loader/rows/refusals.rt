@@ -1,9 +1,8 @@
 //! Calls that the loader rejects. A rejected call leaves the pass as it was.
 
-use crate::loader::play_rows;
 use crate::loader::step::{Part, Row};
 
-static ROWS: [Row; 4] = [
+pub(super) static ROWS: [Row; 5] = [
     Row {
         about: "a full log",
         limits: (1, 1, 2),
@@ -78,6 +77,16 @@ static ROWS: [Row; 4] = [
         }],
     },
     Row {
+        about: "a wait at a stopped loader for a cell that has not ended",
+        limits: (2, 8, 16),
+        callers: 1,
+        parts: &[Part {
+            steps: &[(0, "hold stop", "nothing"), (0, "dispatch", "Stopped")],
+            passes: 1,
+            close: "Unsettled { batch: 0 }",
+        }],
+    },
+    Row {
         about: "ends that are refused",
         limits: (2, 8, 16),
         callers: 1,
@@ -105,8 +114,3 @@ static ROWS: [Row; 4] = [
         }],
     },
 ];
-
-#[test]
-fn rows_of_refusals(rt: HostRuntime) {
-    play_rows(&rt, rt.alloc(), &ROWS);
-}

@@ -1,9 +1,8 @@
 //! Calls in orders that a schedule may give them: ends that come late, and two callers of one key.
 
-use crate::loader::play_rows;
 use crate::loader::step::{Part, Row};
 
-static ROWS: [Row; 2] = [
+pub(super) static ROWS: [Row; 2] = [
     // A batch that breaks late forgets its key only if no newer cell holds the key.
     Row {
         about: "a late failure and a newer cell",
@@ -66,8 +65,3 @@ static ROWS: [Row; 2] = [
         }],
     },
 ];
-
-#[test]
-fn rows_of_schedules(rt: HostRuntime) {
-    play_rows(&rt, rt.alloc(), &ROWS);
-}
