@@ -3,3 +3,4 @@ pub mod JoinedText
 pub mod Json
 pub mod KeyText
 pub mod ShortText
+pub mod Text

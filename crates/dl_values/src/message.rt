@@ -2,7 +2,6 @@
 
 ghost use Rattle.std.specs.Prelude.{◌≡◌, IfOk};
 
-use crate::text::Text;
 use std::alloc::{AllocError, Global};
 use std::fmt;
 use std::marker::Model;
@@ -10,7 +9,7 @@ use std::sync::Arc;
 
 /// The text of an error, which several places share. A copy costs one atomic step. Contracts see its bytes.
 pub struct Message {
-    text: Arc<Text>,
+    text: Arc<String>,
 }
 
 impl Drop for Message {
@@ -21,12 +20,12 @@ impl Drop for Message {
 }
 
 impl Model for Message {
-    ghost use Rattle.std.specs.Prelude.{List, ℕ};
+    ghost use Rattle.std.specs.Prelude.{List, ℕ, string_bytes};
     ghost use Rattle.std.specs.Arc.{arc_value};
 
     ghost Value = { List ℕ };
 
-    ghost view = { λ m. arc_value m.text };
+    ghost view = { λ m. string_bytes (arc_value m.text) };
 }
 
 impl fmt::Debug for Message {
@@ -43,7 +42,7 @@ impl Message {
     pub fn new(alloc: Global, text: &str) -> Result<Message, AllocError>
         ensures { IfOk result (λ m. m ≡ text.now) }
     {
-        let text = Arc::new(alloc, Text::new(alloc, text)?)?;
+        let text = Arc::new(alloc, String::from_str(alloc, text)?)?;
         Ok(Message { text })
     }
 

@@ -1,6 +1,6 @@
 //! Texts that own their bytes.
 
-ghost use Rattle.std.specs.Prelude.{◌≡◌, ◌<◌, ◌∷◌, ◌++◌, IfOk, bytes_eq, string_bytes};
+ghost use Rattle.std.specs.Prelude.{◌≡◌, ◌<◌, ◌∷◌, ◌++◌, IfOk, bytes_eq};
 ghost use Rattle.std.proofs.Common.{rules};
 ghost use Rattle.std.specs.Ordering.{nat_cmp, as_partial_cmp};
 ghost use Rattle.std.specs.Hash as fed;
@@ -8,30 +8,52 @@ ghost use Rattle.std.specs.Cmp.{partial_order_from_own_ties};
 ghost use Rattle.std.specs.Cmp.Lexicographic.{slice_cmp};
 ghost use Rattle.std.specs.Cmp.Rules.{comparing, hashing};
 
+use arrayvec::ArrayString;
 use std::alloc::{AllocError, Global};
 use std::cmp::Ordering;
+use std::fmt;
 use std::hash::{Hash, Hasher};
 use std::marker::Model;
 
-/// A text that owns its bytes. Contracts see the bytes.
-#[derive(Debug)]
+/// The most bytes of a text that takes no block of memory. Most names of tables and fields are as short.
+const INLINE_BYTES: usize = 16;
+
+/// A text that owns its bytes. A short one takes no block of memory. Contracts see the bytes.
 pub struct Text {
-    text: String,
+    bytes: Bytes,
+}
+
+/// The bytes of a text.
+enum Bytes {
+    /// In the value itself.
+    Inline(ArrayString<INLINE_BYTES>),
+    /// In a block of memory.
+    Block(String),
 }
 
 impl Drop for Text {
     fn drop(self) {
-        let Text { text } = self;
-        drop(text);
+        let Text { bytes } = self;
+        match bytes {
+            Bytes::Inline(_) => {}
+            Bytes::Block(text) => drop(text),
+        }
     }
 }
 
 impl Model for Text {
-    ghost use Rattle.std.specs.Prelude.{List, ℕ, string_bytes};
+    ghost use Rattle.std.specs.Prelude.{List, ℕ};
+    ghost use Rattle.dl_values.specs.Inside.Text.{held};
 
     ghost Value = { List ℕ };
 
-    ghost view = { λ t. string_bytes t.text };
+    ghost view = { λ t. held t.bytes };
+}
+
+impl fmt::Debug for Text {
+    fn fmt<W: fmt::Write>(&self, f: &mut fmt::Formatter<W>) -> fmt::Result {
+        write!(f, "{:?}", self.as_str())
+    }
 }
 
 impl Text {
@@ -42,8 +64,11 @@ impl Text {
     pub fn new(alloc: Global, text: &str) -> Result<Text, AllocError>
         ensures { IfOk result (λ t. t ≡ text.now) }
     {
-        let text = String::from_str(alloc, text)?;
-        Ok(Text { text })
+        let bytes = match ArrayString::from(text) {
+            Ok(text) => Bytes::Inline(text),
+            Err(_) => Bytes::Block(String::from_str(alloc, text)?),
+        };
+        Ok(Text { bytes })
     }
 
     /// An ASCII character, given by its code, and then two texts, joined without a gap.
@@ -58,25 +83,32 @@ impl Text {
         text.push(char::from(mark))?;
         text.push_str(first)?;
         text.push_str(second)?;
-        Ok(Text { text })
+        let bytes = Bytes::Block(text);
+        Ok(Text { bytes })
     }
 
     /// The text itself.
     pub fn as_str(&self) -> &str
         ensures { result.now ≡ self.now }
     {
-        self.text.as_str()
+        match &self.bytes {
+            Bytes::Inline(text) => text.as_str(),
+            Bytes::Block(text) => text.as_str(),
+        }
     }
 
-    /// An equal text, in memory of its own.
+    /// An equal text that owns its bytes too.
     ///
     /// # Errors
     /// `AllocError` if memory runs out.
     pub fn try_copy(&self) -> Result<Text, AllocError>
         ensures { IfOk result (λ t. t ≡ self.now) }
     {
-        let text = self.text.clone()?;
-        Ok(Text { text })
+        let bytes = match &self.bytes {
+            Bytes::Inline(text) => Bytes::Inline(*text),
+            Bytes::Block(text) => Bytes::Block(text.clone()?),
+        };
+        Ok(Text { bytes })
     }
 }
 
