@@ -44,6 +44,6 @@ impl Source for Alike {
         for _key in keys {
             outcomes.push(Outcome::Value(self.value.try_copy()?))?;
         }
-        Ok(BatchAnswer::Each(Outcomes::new(outcomes)))
+        Ok(BatchAnswer::Each(Outcomes::new(alloc, outcomes)?))
     }
 }

@@ -22,15 +22,9 @@ pub enum Call {
     /// `dispatch`: each batch that hasn't gone out goes out.
     Dispatch,
     /// A batch ends with an outcome for each member, in order.
-    Settle {
-        batch: u32,
-        outcomes: Shared<Outcomes>,
-    },
+    Settle { batch: u32, outcomes: Outcomes },
     /// A batch fails as a whole.
-    Fail {
-        batch: u32,
-        fault: BatchFault,
-    },
+    Fail { batch: u32, fault: BatchFault },
 }
 
 /// The reply to a call of a shared loader.
@@ -39,7 +33,7 @@ pub enum Reply {
     /// To a load.
     Loaded(LoadReply),
     /// To a loadMany: a reply for each key, in order.
-    Many(Shared<Replies>),
+    Many(Replies),
     /// To a prime of a key that the loader didn't hold: the new cell.
     Primed(u32),
     /// To a prime of a key that the loader holds: nothing changed.
@@ -47,7 +41,7 @@ pub enum Reply {
     /// To a clear, a clearAll, a settle and a fail.
     Done,
     /// To a dispatch: the jobs, in order.
-    Sent(Shared<Jobs>),
+    Sent(Jobs),
 }
 
 /// A call of a shared loader with its reply. Its place in the history is the number of events before it.

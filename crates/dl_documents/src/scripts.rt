@@ -44,7 +44,7 @@ pub(crate) fn script(
     Ok(Script {
         limits,
         table_limits,
-        calls: Calls::new(calls),
+        calls: Calls::new(alloc, calls)?,
     })
 }
 

@@ -101,7 +101,9 @@ fn all(alloc: Global, argument: Value<'_>) -> Result<Option<Term>, AllocError>
     }
 }
 
+// Out of line, so that the stack of the other forms stays small.
 #[cycle(reading)]
+#[inline(never)]
 fn over(alloc: Global, argument: Value<'_>) -> Result<Option<Term>, AllocError>
     ensures { IfOk result (λ t. option_map term_view t ≡ covers (parts_in (tree_data argument.entry)) (tree_data argument.entry)) }
 {
@@ -128,7 +130,9 @@ fn item(argument: &Value<'_>) -> Option<Term>
     }
 }
 
+// Out of line, so that the stack of the other forms stays small.
 #[cycle(reading)]
+#[inline(never)]
 fn object(alloc: Global, argument: Value<'_>) -> Result<Option<Term>, AllocError>
     ensures { IfOk result (λ t. option_map term_view t ≡ assembles (parts_in (tree_data argument.entry)) (tree_data argument.entry)) }
 {

@@ -12,7 +12,6 @@ use Rattle.std.proofs.Crossing.{Vec-send, crosses as owners_cross}
 use Rattle.std.proofs.MapsCrossing.{crosses as maps_cross}
 use Rattle.serde_json.proofs.value.Value.TheLaws.TheKnot.{crosses as values_cross}
 use Rattle.dl_values.proofs.key.FetchKey.TheSendSync as key
-use Rattle.dl_values.proofs.key.Keys.TheSendSync as keys
 use Rattle.dl_values.proofs.message.Message.TheSendSync as message
 use Rattle.dl_values.proofs.list.List.TheSendSync as list
 use Rattle.dl_values.proofs.outcome.BatchFault.TheSendSync as fault
@@ -20,6 +19,7 @@ use Rattle.dl_desk.proofs.event.Reply.TheSendSync as reply
 use Rattle.dl_desk.proofs.shared.Shared.TheSendSync as shared
 use Rattle.dl_history.proofs.flags.Flags.TheSendSync as flags
 use Rattle.dl_values.specs.contracts.json.Json as Json
+use Rattle.dl_values.specs.contracts.key.FetchKey as Key
 use Rattle.dl_values.specs.contracts.outcome.Outcome as Outcome
 use Rattle.dl_values.specs.contracts.list.List as List
 use Rattle.dl_desk.specs.contracts.shared.Shared as Shared
@@ -70,11 +70,17 @@ Ending-send = search (Outcome-field-send, owners_cross, sendable) depth 40
 pub Ending-sync : IsSync Ending.the_row
 Ending-sync = search (Outcome-field-sync, owners_cross, sendable) depth 40
 
+pub Keys-send : IsSend (List.the_row Key.the_row)
+Keys-send = search (list.the_send, key.the_send, key.the_sync) depth 10
+
+pub Keys-sync : IsSync (List.the_row Key.the_row)
+Keys-sync = search (list.the_sync, key.the_send, key.the_sync) depth 10
+
 pub Outcomes-send : IsSend (List.the_row Outcome.the_row)
-Outcomes-send = search (list.the_send, Outcome-send) depth 10
+Outcomes-send = search (list.the_send, Outcome-send, Outcome-sync) depth 10
 
 pub Outcomes-sync : IsSync (List.the_row Outcome.the_row)
-Outcomes-sync = search (list.the_sync, Outcome-sync) depth 10
+Outcomes-sync = search (list.the_sync, Outcome-send, Outcome-sync) depth 10
 
 pub Shared-outcome-send : IsSend (Shared.the_row Outcome.the_row)
 Shared-outcome-send = search (shared.the_send, Outcome-send, Outcome-sync) depth 10
@@ -82,17 +88,11 @@ Shared-outcome-send = search (shared.the_send, Outcome-send, Outcome-sync) depth
 pub Shared-outcome-sync : IsSync (Shared.the_row Outcome.the_row)
 Shared-outcome-sync = search (shared.the_sync, Outcome-send, Outcome-sync) depth 10
 
-pub Shared-outcomes-send : IsSend (Shared.the_row (List.the_row Outcome.the_row))
-Shared-outcomes-send = search (shared.the_send, Outcomes-send, Outcomes-sync) depth 10
-
-pub Shared-outcomes-sync : IsSync (Shared.the_row (List.the_row Outcome.the_row))
-Shared-outcomes-sync = search (shared.the_sync, Outcomes-send, Outcomes-sync) depth 10
-
 pub Call-field-send : IsSend Call.the_field.row
-Call-field-send = search (key.the_send, keys.the_send, fault.the_field_send, Shared-outcome-send, Shared-outcomes-send, owners_cross, sendable) depth 40 fits 20000
+Call-field-send = search (key.the_send, Keys-send, fault.the_field_send, Shared-outcome-send, Outcomes-send, owners_cross, sendable) depth 40 fits 20000
 
 pub Call-field-sync : IsSync Call.the_field.row
-Call-field-sync = search (key.the_sync, keys.the_sync, fault.the_field_sync, Shared-outcome-sync, Shared-outcomes-sync, owners_cross, sendable) depth 40 fits 20000
+Call-field-sync = search (key.the_sync, Keys-sync, fault.the_field_sync, Shared-outcome-sync, Outcomes-sync, owners_cross, sendable) depth 40 fits 20000
 
 pub Event-send : IsSend Event.the_row
 Event-send = search (Call-field-send, reply.the_field_send, owners_cross, sendable) depth 40

@@ -5,7 +5,7 @@ ghost use Rattle.dl_loader.specs.Inside.Dues.{AreDue, AreGiven, CanEnd, outcome_
 ghost use Rattle.dl_loader.specs.Inside.DueLists.{due_list};
 ghost use Rattle.dl_history.specs.Journal.{refusals};
 
-use dl_desk::{Outcome, Outcomes};
+use dl_desk::Outcome;
 use dl_history::{Call, CellRows, Ending, Journal, LoaderName};
 use std::alloc::{AllocError, Global};
 
@@ -101,18 +101,6 @@ fn give_each<L: LoaderName>(journal: &mut Journal<L>, rows: &CellRows<L>, dues: 
         }
     }
     refused
-}
-
-/// The same outcomes, each shared. Fails if memory runs out.
-pub(crate) fn copy_outcomes(alloc: Global, outcomes: &Outcomes) -> Result<Outcomes, AllocError>
-    ensures { IfOk result (λ copies. copies ≡ outcomes.now) }
-{
-    let outcomes = outcomes.as_slice();
-    let mut copies = Vec::with_capacity(alloc, outcomes.len())?;
-    for outcome in outcomes {
-        copies.push_reserved(outcome.try_copy()?);
-    }
-    Ok(Outcomes::new(copies))
 }
 
 /// The outcome that the end of a batch brings its member at a place.

@@ -26,7 +26,7 @@ impl Source for HostSource {
         for _ in keys {
             outcomes.push_reserved(mark.try_copy()?);
         }
-        Ok(BatchAnswer::Each(Outcomes::new(outcomes)))
+        Ok(BatchAnswer::Each(Outcomes::new(alloc, outcomes)?))
     }
 }
 

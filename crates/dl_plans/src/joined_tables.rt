@@ -58,7 +58,7 @@ impl<'s> JoinedTables<'s> {
         let mut outcomes = Vec::with_capacity(alloc, keys.len())?;
         match self.add_outcomes(alloc, &mut outcomes, keys)? {
             Some(text) => Ok(BatchAnswer::Break(text)),
-            None => Ok(BatchAnswer::Each(Outcomes::new(outcomes))),
+            None => Ok(BatchAnswer::Each(Outcomes::new(alloc, outcomes)?)),
         }
     }
 

@@ -33,7 +33,7 @@ use std::alloc::{AllocError, Global};
 ///         for key in keys {
 ///             outcomes.push(outcome(alloc, key.id())?)?;
 ///         }
-///         Ok(BatchAnswer::Each(Outcomes::new(outcomes)))
+///         Ok(BatchAnswer::Each(Outcomes::new(alloc, outcomes)?))
 ///     }
 /// }
 /// ```

@@ -356,7 +356,7 @@ impl Source for Tables {
         let mut outcomes = Vec::with_capacity(alloc, keys.len())?;
         match self.add_outcomes(&mut outcomes, keys)? {
             Some(text) => Ok(BatchAnswer::Break(text)),
-            None => Ok(BatchAnswer::Each(Outcomes::new(outcomes))),
+            None => Ok(BatchAnswer::Each(Outcomes::new(alloc, outcomes)?)),
         }
     }
 }

@@ -105,24 +105,21 @@ pub fn unexplored(alloc: Global, term: Term) -> Result<Node, AllocError>
 {
     let mut frames = Vec::new(alloc);
     let mut term = term;
-    loop {
+    let part = loop {
         let (frame, part) = match term {
-            Term::Value(value) => {
-                let answer = Answer::Value(AnswerValue::row(value));
-                return in_frames(alloc, Node::Done(answer), frames);
-            }
-            Term::Load(key) => return in_frames(alloc, Node::Load { key, place: 0 }, frames),
+            Term::Value(value) => break Node::Done(Answer::Value(AnswerValue::row(value))),
+            Term::Load(key) => break Node::Load { key, place: 0 },
             Term::All(parts) => {
                 let parts = unexplored_all(alloc, parts)?;
                 let by = Join::List;
-                return in_frames(alloc, Node::Parts { parts, by }, frames);
+                break Node::Parts { parts, by };
             }
             Term::Object { names, parts } => {
                 let parts = unexplored_all(alloc, parts)?;
                 let by = Join::Object(names);
-                return in_frames(alloc, Node::Parts { parts, by }, frames);
+                break Node::Parts { parts, by };
             }
-            Term::Item => return in_frames(alloc, Node::Item, frames),
+            Term::Item => break Node::Item,
             Term::Pick { part, field } => (Frame::Pick { field }, part),
             Term::Follow { part, field, table } => (Frame::Follow { field, table }, part),
             Term::Each { part, field, table } => (Frame::Each { field, table }, part),
@@ -130,7 +127,8 @@ pub fn unexplored(alloc: Global, term: Term) -> Result<Node, AllocError>
         };
         frames.push(frame)?;
         term = Box::into_inner(part);
-    }
+    };
+    in_frames(alloc, part, frames)
 }
 
 /// A part, put into frames.

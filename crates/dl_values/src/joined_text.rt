@@ -1,6 +1,6 @@
 //! Two texts joined into one, which takes no memory of its own if it is short.
 
-ghost use Rattle.std.specs.Prelude.{◌≡◌};
+ghost use Rattle.std.specs.Prelude.{◌≡◌, ◌<◌, ◌∷◌, ◌++◌, IfOk, string_bytes};
 ghost use Rattle.std.specs.Str.{bytes_eq};
 ghost use Rattle.std.specs.Cmp.Rules.{comparing};
 ghost use Rattle.std.proofs.Common.{rules};
@@ -8,13 +8,13 @@ ghost use Rattle.dl_values.specs.Inside.HashedText.{hashed};
 ghost use Rattle.dl_values.specs.Inside.JoinedText.{bytes_of, IsInForm};
 
 use crate::short_text::ShortText;
-use crate::text::Text;
+use std::alloc::{AllocError, Global};
 
 /// A mark and two texts, one right after the other.
 #[derive(Drop)]
 pub(crate) enum JoinedText {
     Short(ShortText),
-    Long(Text),
+    Long(String),
 }
 
 impl JoinedText {
@@ -48,6 +48,23 @@ impl JoinedText {
     {
         self.as_str() == other.as_str()
     }
+}
+
+/// An ASCII character, given by its code, and then two texts, joined without a gap. Fails if memory runs out.
+pub(crate) fn marked(
+    alloc: Global,
+    mark: u8,
+    first: &str,
+    second: &str,
+) -> Result<String, AllocError>
+    requires { mark < 128 }
+    ensures { IfOk result (λ s. string_bytes s ≡ mark ∷ (first.now ++ second.now)) }
+{
+    let mut text = String::with_capacity(alloc, 1 + first.len() + second.len())?;
+    text.push(char::from(mark))?;
+    text.push_str(first)?;
+    text.push_str(second)?;
+    Ok(text)
 }
 
 /// Compares two short texts by their blocks.

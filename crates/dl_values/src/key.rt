@@ -1,4 +1,4 @@
-//! Keys, and lists of keys that several places share.
+//! Keys, and lists of keys.
 
 ghost use Rattle.std.specs.Prelude.{◌≡◌, ◌+◌, ◌<◌, ◌≤◌, IfOk, IfErr, OnErr, IfSome, IfNone, length, IsTrue, ◌↔◌};
 ghost use Rattle.std.proofs.Common.{rules};
@@ -12,10 +12,9 @@ ghost use Rattle.dl_values.specs.KeyTexts.{IsKeyText, short_bytes};
 ghost use Rattle.std.specs.Arc.{arc_value};
 
 use crate::fault::KeyFault;
-use crate::joined_text::JoinedText;
-use crate::list::show_items;
+use crate::joined_text::{JoinedText, marked};
+use crate::list::List;
 use crate::short_text::{SHORT_BYTES, ShortText};
-use crate::text::Text;
 use std::alloc::{AllocError, Global};
 use std::cmp::Ordering;
 use std::hash::{Hash, Hasher};
@@ -83,7 +82,7 @@ impl KeyText {
         requires long { short_bytes < 1 + length table.now + length id.now }
         ensures { IfOk result (λ k. k ≡ record { table = table.now; id = id.now }) }
     {
-        let text = Text::marked(alloc, table.len() as u8, table, id)?;
+        let text = marked(alloc, table.len() as u8, table, id)?;
         Ok(KeyText {
             text: JoinedText::Long(text),
         })
@@ -380,53 +379,10 @@ impl Hash for FetchKey {
     }
 }
 
-/// A list of keys that several places share, such as the keys of a job. A copy costs one atomic step. Contracts see the
-/// list.
-pub struct Keys {
-    keys: Arc<Vec<FetchKey>>,
-}
+/// Keys that several places share, in order.
+pub type Keys = List<FetchKey>;
 
-impl Drop for Keys {
-    fn drop(self) {
-        let Keys { keys } = self;
-        drop(keys);
-    }
-}
-
-impl Model for Keys {
-    ghost use Rattle.std.specs.Prelude.{List};
-    ghost use Rattle.std.specs.Arc.{arc_value};
-    ghost use Rattle.dl_values.specs.Key.{Key};
-
-    ghost Value = { List Key };
-
-    ghost view = { λ k. (arc_value k.keys).items };
-}
-
-impl fmt::Debug for Keys {
-    fn fmt<W: fmt::Write>(&self, f: &mut fmt::Formatter<W>) -> fmt::Result {
-        write!(f, "{:?}", self.as_slice())
-    }
-}
-
-impl fmt::Display for Keys {
-    fn fmt<W: fmt::Write>(&self, f: &mut fmt::Formatter<W>) -> fmt::Result {
-        show_items(self.as_slice(), f)
-    }
-}
-
-impl Keys {
-    /// Moves the keys into a list that you can share.
-    ///
-    /// # Errors
-    /// `AllocError` if memory runs out.
-    pub fn new(alloc: Global, keys: Vec<FetchKey>) -> Result<Keys, AllocError>
-        ensures { IfOk result (λ k. k ≡ keys.items) }
-    {
-        let keys = Arc::new(alloc, keys)?;
-        Ok(Keys { keys })
-    }
-
+impl List<FetchKey> {
     /// A list of copies, which share their texts with the keys.
     ///
     /// # Errors
@@ -434,24 +390,6 @@ impl Keys {
     pub fn copy_of(alloc: Global, keys: &[FetchKey]) -> Result<Keys, AllocError>
         ensures { IfOk result (λ k. k ≡ keys.now) }
     {
-        Keys::new(alloc, keys.to_vec(alloc)?)
-    }
-
-    /// The keys, in order.
-    pub fn as_slice(&self) -> &[FetchKey]
-        ensures { result.now ≡ self.now }
-    {
-        self.keys.as_slice()
-    }
-
-    /// The same list, shared.
-    ///
-    /// # Errors
-    /// `AllocError` if the reference count would overflow.
-    pub fn try_copy(&self) -> Result<Keys, AllocError>
-        ensures { IfOk result (λ k. k ≡ self.now) }
-    {
-        let keys = Arc::try_clone(&self.keys)?;
-        Ok(Keys { keys })
+        List::new(alloc, keys.to_vec(alloc)?)
     }
 }

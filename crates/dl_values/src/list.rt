@@ -1,4 +1,4 @@
-//! Lists that never change once you have made them.
+//! Lists that several places share.
 
 ghost use Rattle.std.specs.Prelude.{◌≡◌, IfOk};
 
@@ -6,10 +6,12 @@ use crate::job::Job;
 use std::alloc::{AllocError, Global};
 use std::fmt;
 use std::marker::Model;
+use std::sync::Arc;
 
-/// A `Vec` that you can only read. Contracts see it as the list of its items.
+/// A list that never changes and that several places share, such as the keys of a job. A copy costs one atomic step.
+/// Contracts see the list.
 pub struct List<T> {
-    items: Vec<T>,
+    items: Arc<Vec<T>>,
 }
 
 impl<T: Drop> Drop for List<T> {
@@ -21,23 +23,41 @@ impl<T: Drop> Drop for List<T> {
 
 impl<T> Model for List<T> {
     ghost use Rattle.std.specs.Prelude.{List};
+    ghost use Rattle.std.specs.Arc.{arc_value};
     ghost use Rattle.std.specs.Coded.{coded_list};
 
     ghost Value = { List T };
 
     ghost coded = { coded_list T.code };
 
-    ghost view = { λ l. l.items.items };
+    ghost view = { λ l. (arc_value l.items).items };
+}
+
+impl<T: Drop> List<T> {
+    /// Moves the items into a list that you can share.
+    ///
+    /// # Errors
+    /// `AllocError` if memory runs out.
+    pub fn new(alloc: Global, items: Vec<T>) -> Result<List<T>, AllocError>
+        ensures { IfOk result (λ list. list ≡ items.items) }
+    {
+        let items = Arc::new(alloc, items)?;
+        Ok(List { items })
+    }
+
+    /// The same list, shared.
+    ///
+    /// # Errors
+    /// `AllocError` if the reference count would overflow.
+    pub fn try_copy(&self) -> Result<List<T>, AllocError>
+        ensures { IfOk result (λ list. list ≡ self.now) }
+    {
+        let items = Arc::try_clone(&self.items)?;
+        Ok(List { items })
+    }
 }
 
 impl<T> List<T> {
-    /// Takes the items.
-    pub fn new(items: Vec<T>) -> List<T>
-        ensures { result ≡ items.items }
-    {
-        List { items }
-    }
-
     /// The items, in order.
     pub fn as_slice(&self) -> &[T]
         ensures { result.now ≡ self.now }
@@ -48,41 +68,20 @@ impl<T> List<T> {
 
 impl<T: fmt::Debug> fmt::Debug for List<T> {
     fn fmt<W: fmt::Write>(&self, f: &mut fmt::Formatter<W>) -> fmt::Result {
-        write!(f, "{:?}", self.items)
+        write!(f, "{:?}", self.as_slice())
     }
 }
 
+/// The items in brackets, with commas between them.
 impl<T: fmt::Display> fmt::Display for List<T> {
     fn fmt<W: fmt::Write>(&self, f: &mut fmt::Formatter<W>) -> fmt::Result {
-        show_items(self.as_slice(), f)
-    }
-}
-
-/// Writes the items in brackets, with commas between them.
-pub(crate) fn show_items<T: fmt::Display, W: fmt::Write>(
-    items: &[T],
-    f: &mut fmt::Formatter<W>,
-) -> fmt::Result {
-    f.write_str("[")?;
-    let mut before = "";
-    for item in items {
-        write!(f, "{before}{item}")?;
-        before = ", ";
-    }
-    f.write_str("]")
-}
-
-impl<T: Copy> List<T> {
-    /// A list of copies of the items.
-    ///
-    /// # Errors
-    /// `AllocError` if memory runs out.
-    pub fn copy_of(alloc: Global, items: &[T]) -> Result<List<T>, AllocError>
-        ensures { IfOk result (λ copies. copies ≡ items.now) }
-    {
-        Ok(List {
-            items: Vec::from_slice(alloc, items)?,
-        })
+        f.write_str("[")?;
+        let mut before = "";
+        for item in self.as_slice() {
+            write!(f, "{before}{item}")?;
+            before = ", ";
+        }
+        f.write_str("]")
     }
 }
 
@@ -98,6 +97,6 @@ impl List<Job> {
         for job in jobs {
             copies.push_reserved(job.try_copy()?);
         }
-        Ok(List { items: copies })
+        List::new(alloc, copies)
     }
 }

@@ -1,6 +1,6 @@
 //! Texts that own their bytes.
 
-ghost use Rattle.std.specs.Prelude.{◌≡◌, ◌<◌, ◌∷◌, ◌++◌, IfOk, bytes_eq};
+ghost use Rattle.std.specs.Prelude.{◌≡◌, IfOk, bytes_eq};
 ghost use Rattle.std.proofs.Common.{rules};
 ghost use Rattle.std.specs.Ordering.{nat_cmp, as_partial_cmp};
 ghost use Rattle.std.specs.Hash as fed;
@@ -68,22 +68,6 @@ impl Text {
             Ok(text) => Bytes::Inline(text),
             Err(_) => Bytes::Block(String::from_str(alloc, text)?),
         };
-        Ok(Text { bytes })
-    }
-
-    /// An ASCII character, given by its code, and then two texts, joined without a gap.
-    ///
-    /// # Errors
-    /// `AllocError` if memory runs out.
-    pub fn marked(alloc: Global, mark: u8, first: &str, second: &str) -> Result<Text, AllocError>
-        requires { mark < 128 }
-        ensures { IfOk result (λ t. t ≡ mark ∷ (first.now ++ second.now)) }
-    {
-        let mut text = String::with_capacity(alloc, 1 + first.len() + second.len())?;
-        text.push(char::from(mark))?;
-        text.push_str(first)?;
-        text.push_str(second)?;
-        let bytes = Bytes::Block(text);
         Ok(Text { bytes })
     }
 

@@ -28,7 +28,7 @@ impl Source for Domains {
         for key in keys {
             outcomes.push(outcome(alloc, key.id())?)?;
         }
-        Ok(BatchAnswer::Each(Outcomes::new(outcomes)))
+        Ok(BatchAnswer::Each(Outcomes::new(alloc, outcomes)?))
     }
 }
 

@@ -57,7 +57,7 @@ fn each_name(
     for key in keys {
         outcomes.push(name(alloc, conn, key.id())?)?;
     }
-    Ok(Outcomes::new(outcomes))
+    Ok(Outcomes::new(alloc, outcomes)?)
 }
 
 /// The name of the user with this id, or that there is no such row.

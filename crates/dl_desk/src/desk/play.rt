@@ -11,7 +11,6 @@ use crate::desk::Desk;
 use crate::event::Reply;
 use crate::fault::DeskFault;
 use crate::reply::DeskPrime;
-use crate::shared::Shared;
 use dl_values::{FetchKey, List};
 use std::alloc::{AllocError, Global};
 
@@ -74,7 +73,7 @@ impl Desk {
         ensures err { OnErr result (self.new.book ≡ self.old.book) }
     {
         let replies = self.prepare_loads(alloc, keys)?;
-        let replies = Shared::new(alloc, List::new(replies))?;
+        let replies = List::new(alloc, replies)?;
         self.make_prepared();
         Ok(Reply::Many(replies))
     }
@@ -89,7 +88,7 @@ impl Desk {
         ensures err { OnErr result (self.new.book ≡ self.old.book) }
     {
         let jobs = self.prepare_dispatch(alloc)?;
-        let jobs = Shared::new(alloc, List::new(jobs))?;
+        let jobs = List::new(alloc, jobs)?;
         self.make_prepared();
         Ok(Reply::Sent(jobs))
     }

@@ -12,10 +12,10 @@ ghost use Rattle.dl_loader.specs.Inside.Dues.{end_as, end_refusal};
 ghost use Rattle.dl_source.specs.Fetched.{answer_of, job_of, source_of};
 
 use crate::ask::GiveUp;
-use crate::dues::{copy_outcomes, dues};
+use crate::dues::dues;
 use crate::event_call::{EventCall, Prepared};
 use dl_desk::{BatchFault, Desk, End, FetchKey, Job, LoadReply};
-use dl_history::{Call, CallFault, Reply, Shared};
+use dl_history::{Call, CallFault, Reply};
 use dl_source::{BatchAnswer, Fetched, Source};
 use std::alloc::{AllocError, Global};
 
@@ -56,13 +56,13 @@ impl<'a> EndBatch<'a> {
         }
     }
 
-    /// The call of its event. Fails if memory runs out.
-    fn call(&self, alloc: Global) -> Result<Call, AllocError>
+    /// The call of its event. Fails if a reference count would overflow.
+    fn call(&self) -> Result<Call, AllocError>
         ensures { IfOk result (λ call. call ≡ call_ended self.now.batch self.now.answer) }
     {
         let batch = self.batch;
         match self.answer {
-            Ok(answer) => end_call(alloc, batch, answer),
+            Ok(answer) => end_call(batch, answer),
             Err(give_up) => {
                 let fault = batch_fault(give_up);
                 Ok(Call::Fail { batch, fault })
@@ -96,7 +96,7 @@ impl EventCall for EndBatch<'_> {
 
     fn prepare(&self, alloc: Global, at: u16, desk: &mut Desk) -> Result<Prepared<()>, CallFault> {
         let cells = cells_of(desk, self.batch, self.keys)?;
-        let call = self.call(alloc)?;
+        let call = self.call()?;
         let dues = dues(alloc, at, cells, &call)?;
         Ok(Prepared {
             call,
@@ -138,13 +138,13 @@ fn cells_of<'a>(desk: &'a Desk, batch: u32, keys: &[FetchKey]) -> Result<&'a [u3
     Ok(view.cells())
 }
 
-/// The call that ends a batch by what its source answered. Fails if memory runs out.
-fn end_call(alloc: Global, batch: u32, answer: &BatchAnswer) -> Result<Call, AllocError>
+/// The call that ends a batch by what its source answered. Fails if a reference count would overflow.
+fn end_call(batch: u32, answer: &BatchAnswer) -> Result<Call, AllocError>
     ensures { IfOk result (λ call. call ≡ end_by batch answer.now) }
 {
     match answer {
         BatchAnswer::Each(outcomes) => {
-            let outcomes = Shared::new(alloc, copy_outcomes(alloc, outcomes)?)?;
+            let outcomes = outcomes.try_copy()?;
             Ok(Call::Settle { batch, outcomes })
         }
         BatchAnswer::Break(text) => {

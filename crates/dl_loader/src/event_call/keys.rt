@@ -133,7 +133,7 @@ impl EventCall for Prime<'_> {
 #[derive(Drop)]
 pub(crate) struct SentJobs {
     jobs: Vec<Job>,
-    told: Shared<Jobs>,
+    told: Jobs,
 }
 
 impl Model for SentJobs {
@@ -157,7 +157,7 @@ impl SentJobs {
     }
 
     /// The jobs as the event has them.
-    pub(crate) fn into_told(self) -> Shared<Jobs>
+    pub(crate) fn into_told(self) -> Jobs
         ensures { result ≡ self }
     {
         let SentJobs { told, .. } = self;
@@ -185,7 +185,7 @@ impl EventCall for Dispatch {
         desk: &mut Desk,
     ) -> Result<Prepared<SentJobs>, CallFault> {
         let jobs = desk.prepare_dispatch(alloc)?;
-        let told = Shared::new(alloc, Jobs::copy_of(alloc, jobs.as_slice())?)?;
+        let told = Jobs::copy_of(alloc, jobs.as_slice())?;
         let copy = told.try_copy()?;
         Ok(Prepared {
             call: Call::Dispatch,

@@ -8,7 +8,7 @@ ghost use Rattle.dl_loader.specs.Inside.Preparation.{IsReady};
 
 use crate::event_call::{EventCall, Prepared};
 use dl_desk::{Desk, FetchKey, Keys, LoadReply};
-use dl_history::{Call, CallFault, Replies, Reply, Shared};
+use dl_history::{Call, CallFault, Replies, Reply};
 use std::alloc::Global;
 use std::slice;
 
@@ -70,7 +70,7 @@ pub(crate) struct LoadMany<'a> {
 }
 
 impl EventCall for LoadMany<'_> {
-    type Reply = Shared<Replies>;
+    type Reply = Replies;
 
     ghost call = { λ c. made.LoadMany c.keys.now };
 
@@ -83,9 +83,9 @@ impl EventCall for LoadMany<'_> {
         alloc: Global,
         _at: u16,
         desk: &mut Desk,
-    ) -> Result<Prepared<Shared<Replies>>, CallFault> {
+    ) -> Result<Prepared<Replies>, CallFault> {
         let replies = desk.prepare_loads(alloc, self.keys)?;
-        let replies = Shared::new(alloc, Replies::new(replies))?;
+        let replies = Replies::new(alloc, replies)?;
         let told = replies.try_copy()?;
         let keys = Keys::copy_of(alloc, self.keys)?;
         Ok(Prepared {
@@ -100,13 +100,13 @@ impl EventCall for LoadMany<'_> {
         desk.make_prepared();
     }
 
-    fn loads(replies: &Shared<Replies>) -> &[LoadReply]
+    fn loads(replies: &Replies) -> &[LoadReply]
         ensures { replies.now ≡ result.now }
     {
         replies.as_slice()
     }
 
-    fn tell(replies: Shared<Replies>) -> Reply
+    fn tell(replies: Replies) -> Reply
         ensures { result ≡ reply.Many replies }
     {
         Reply::Many(replies)

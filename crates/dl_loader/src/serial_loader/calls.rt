@@ -16,7 +16,7 @@ use crate::event_call::{Clear, Dispatch, EndBatch, Load, LoadMany, Prime};
 use crate::reply::{PrimeReply, Settled};
 use crate::serial_loader::SerialLoader;
 use dl_desk::{FetchKey, Job, LoadReply, Outcome};
-use dl_history::{CallFault, LoaderName, Replies, Shared};
+use dl_history::{CallFault, LoaderName, Replies};
 use dl_source::{Fetched, Source};
 use std::alloc::Global;
 
@@ -49,7 +49,7 @@ impl<L: LoaderName> SerialLoader<L> {
         alloc: Global,
         caller: u32,
         keys: &[FetchKey],
-    ) -> Result<Shared<Replies>, CallFault>
+    ) -> Result<Replies, CallFault>
         requires caller { caller < length self.old.traces }
         ensures made { IfOk result (λ rs. IsMade caller (call.LoadMany keys.now) (reply.Many rs) self.old self.new) }
         ensures fault { IfErr result (IsRefused L.service caller (call.LoadMany keys.now) None self.old) }

@@ -26,7 +26,7 @@ impl Fetch for Turns {
                 outcomes.push(Outcome::Value(value))?;
             }
         }
-        Ok(BatchAnswer::Each(Outcomes::new(outcomes)))
+        Ok(BatchAnswer::Each(Outcomes::new(alloc, outcomes)?))
     }
 }
 
