@@ -1,5 +1,5 @@
 -- What is left of a term, as a tree.
-use Rattle.std.specs.Prelude.{List, [], ◌∷◌, map, Option, Some, None}
+use Rattle.std.specs.Prelude.{ℕ, ◌+◌, List, [], ◌∷◌, map, Option, Some, None}
 use Rattle.dl_terms.specs.declared.answer.Answer.{Answer}
 use Rattle.dl_terms.specs.declared.node.Frame.{Frame}
 use Rattle.dl_terms.specs.declared.node.Frame.TheVariants.{Pick, Follow, Each, Over}
@@ -23,6 +23,18 @@ in_frame (Over body) t = over t (term_view body.value)
 abbrev pub framed : List Frame → Tree → Tree
 framed [] t = t
 framed (f ∷ fs) t = in_frame f (framed fs t)
+
+-- how many frames are round the innermost part of a tree
+abbrev pub frames_around : Tree → ℕ
+frames_around (ended a) = 0
+frames_around (load k) = 0
+frames_around (pick t field) = frames_around t + 1
+frames_around (follow t field table) = frames_around t + 1
+frames_around (each t field table) = frames_around t + 1
+frames_around (all ts) = 0
+frames_around (over t body) = frames_around t + 1
+frames_around the_item = 0
+frames_around (named names ts) = 0
 
 abbrev pub joint_of : Join → Joint
 joint_of way.List = listing

@@ -1,8 +1,8 @@
 //! What is left of a term while you load its keys.
 
-ghost use Rattle.std.specs.Prelude.{◌≡◌, None, IfOk, is_some};
+ghost use Rattle.std.specs.Prelude.{◌≡◌, ◌-◌, ◌^◌, min, None, IfOk, is_some};
 ghost use Rattle.dl_terms.specs.View.{term_view, terms_view};
-ghost use Rattle.dl_terms.specs.Node.{framed, node_view, nodes_view, result_of};
+ghost use Rattle.dl_terms.specs.Node.{framed, frames_around, node_view, nodes_view, result_of};
 
 use crate::answer::{Answer, EvalFault};
 use crate::answer_value::AnswerValue;
@@ -103,7 +103,7 @@ impl Node {
 pub fn unexplored(alloc: Global, term: Term) -> Result<Node, AllocError>
     ensures { IfOk result (λ n. node_view n ≡ term_view term) }
 {
-    let mut frames = Vec::new(alloc);
+    let mut frames = Vec::with_capacity(alloc, count_frames(&term))?;
     let mut term = term;
     let part = loop {
         let (frame, part) = match term {
@@ -129,6 +129,25 @@ pub fn unexplored(alloc: Global, term: Term) -> Result<Node, AllocError>
         term = Box::into_inner(part);
     };
     in_frames(alloc, part, frames)
+}
+
+/// How many frames the innermost part of the term lies in.
+fn count_frames(term: &Term) -> usize
+    ensures { result ≡ min (frames_around (term_view term.now)) (2 ^ 64 - 1) }
+{
+    let mut count: usize = 0;
+    let mut term = term;
+    loop {
+        term = match term {
+            Term::Pick { part, .. }
+            | Term::Follow { part, .. }
+            | Term::Each { part, .. }
+            | Term::Over { part, .. } => part,
+            Term::Value(_) | Term::Load(_) | Term::All(_) | Term::Item | Term::Object { .. } =>
+                return count,
+        };
+        count = count.saturating_add(1);
+    }
 }
 
 /// A part, put into frames.

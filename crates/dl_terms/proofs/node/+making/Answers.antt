@@ -24,9 +24,9 @@ unexplored_all-returns-in_err-push t c = IfOk-from_err _ _ c.from_residual-in_er
 
 pub unexplored-loop-term-preserved : goal.unexplored-loop-term-preserved
 unexplored-loop-term-preserved t c =
-    let taken = c.match-term.frame in
+    let taken = c.match-term-2.frame in
     let inner = term_view c.into_inner-term.result in
-    let is : in_frame taken.0 (term_view taken.1.value) ≡ term_view c.loop-term.term = elim c.match-term.branch [
+    let is : in_frame taken.0 (term_view taken.1.value) ≡ term_view c.loop-term.term = elim c.match-term-2.branch [
       | unexplored-in-Pick w ↦
           ap (λ (x : Frame × Box Term Global). in_frame x.0 (term_view x.1.value)) w.frame-is
           ∙ sym (ap term_view w.in-Pick.is ∙ term_view-Pick w.in-Pick.part w.in-Pick.field)
