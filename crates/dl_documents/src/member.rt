@@ -26,6 +26,8 @@ pub(crate) fn member<'v, 'a>(top: &'v Top<'a>, name: &str) -> Option<&'v Value<'
 }
 
 /// The name and the value of an object's one member, moved out of it.
+// Inlined, since it is the first step for each term.
+#[inline(always)]
 pub(crate) fn into_only(tree: Value<'_>) -> Option<(&str, Value<'_>)>
     ensures { option_map (λ p. (p.0.now, tree_data p.1)) result ≡ one_in (tree_data tree.entry) }
 {

@@ -101,9 +101,7 @@ fn all(alloc: Global, argument: Value<'_>) -> Result<Option<Term>, AllocError>
     }
 }
 
-// Out of line, so that the stack of the other forms stays small.
 #[cycle(reading)]
-#[inline(never)]
 fn over(alloc: Global, argument: Value<'_>) -> Result<Option<Term>, AllocError>
     ensures { IfOk result (λ t. option_map term_view t ≡ covers (parts_in (tree_data argument.entry)) (tree_data argument.entry)) }
 {
@@ -130,9 +128,7 @@ fn item(argument: &Value<'_>) -> Option<Term>
     }
 }
 
-// Out of line, so that the stack of the other forms stays small.
 #[cycle(reading)]
-#[inline(never)]
 fn object(alloc: Global, argument: Value<'_>) -> Result<Option<Term>, AllocError>
     ensures { IfOk result (λ t. option_map term_view t ≡ assembles (parts_in (tree_data argument.entry)) (tree_data argument.entry)) }
 {
@@ -148,7 +144,9 @@ fn object(alloc: Global, argument: Value<'_>) -> Result<Option<Term>, AllocError
 }
 
 /// The terms that the trees spell, if each spells one.
+// Inlined, so that lists inside one another take one call less for each.
 #[cycle(reading)]
+#[inline(always)]
 fn read_parts(alloc: Global, trees: Vec<Value<'_>>) -> Result<Option<Vec<Term>>, AllocError>
     ensures { IfOk result (λ o. option_map (λ ts. map term_view ts.items) o ≡ together (parts_of (list_data trees.entry.items))) }
 {

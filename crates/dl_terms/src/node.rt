@@ -161,7 +161,9 @@ fn in_frames(alloc: Global, part: Node, frames: Vec<Frame>) -> Result<Node, Allo
     Ok(Node::Chain { part, frames })
 }
 
+// Inlined, so that lists inside one another take one call less for each.
 #[cycle(making)]
+#[inline(always)]
 fn unexplored_all(alloc: Global, parts: Vec<Term>) -> Result<Vec<Node>, AllocError>
     ensures { IfOk result (λ ns. nodes_view ns.items ≡ terms_view parts.items) }
 {
