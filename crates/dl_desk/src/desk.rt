@@ -51,7 +51,7 @@ pub(crate) struct Extent {
 /// desk takes it back.
 ///
 /// # Examples
-/// You load a key twice and fetch it once, as `crates/example_one_thread` does:
+/// You load a key twice and fetch it once, as `crates/example_loaders/src/one_thread.rt` does:
 ///
 /// ```rust
 /// let mut desk = Desk::new(alloc, hashing, Limits::new(64, 1_024, 4_096)?);

@@ -34,7 +34,7 @@ use std::marker::Model;
 ///
 /// # Examples
 /// `Loader::close` of `dl_loader` gives you the history, or hands back what you gave it, as in
-/// `crates/example_one_caller`:
+/// `crates/example_loaders/src/one_caller.rt`:
 ///
 /// ```rust
 /// match loader.close(alloc, passes) {

@@ -39,7 +39,7 @@ pub(crate) struct GivenTicket {
 ///
 /// # Examples
 /// You start a loader, give each pass to its caller, and close the loader with all of them, as
-/// `crates/example_one_caller` does:
+/// `crates/example_loaders/src/one_caller.rt` does:
 ///
 /// ```rust
 /// let (loader, mut passes) = Loader::<L>::start(alloc, opening)?;

@@ -16,7 +16,7 @@ use std::marker::{Model, PhantomData};
 /// to the load, and what it knows of the cell.
 ///
 /// # Examples
-/// You load a key, have its batch fetched, wait, and look, as `crates/example_one_caller` does:
+/// You load a key, have its batch fetched, wait, and look, as `crates/example_loaders/src/one_caller.rt` does:
 ///
 /// ```rust
 /// let mut ticket = loader.load(rt, alloc, pass, &key)?;

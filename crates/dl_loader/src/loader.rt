@@ -26,7 +26,7 @@ use std::sync::{Mutex, MutexGuard, Wait};
 /// come in a run: treat them as a bug.
 ///
 /// # Examples
-/// Loads a user, sends the batch, ends its job, and prints the outcome, from `crates/example_one_caller`:
+/// Loads a user, sends the batch, ends its job, and prints the outcome, from `crates/example_loaders/src/one_caller.rt`:
 ///
 /// ```rust
 /// let key = FetchKey::new(alloc, "user", "u1")?;

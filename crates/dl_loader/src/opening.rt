@@ -25,12 +25,12 @@ pub const MOST_CALLERS: u32 = 32;
 /// one loader with another.
 ///
 /// # Examples
-/// Opens a loader for one caller, from `crates/example_one_caller`. Its `with_loader` starts the loader:
+/// Opens a loader for one caller, from `crates/example_loaders/src/one_caller.rt`. Its `with_loader` starts the loader:
 ///
 /// ```rust
 /// let limits = Limits::new(64, 1_024, 4_096)?;
-/// let opening = Opening::new(rt.alloc(), hashing, &users, limits, 1)?;
-/// with_loader::<Brand, _, _>(&rt, rt.alloc(), &users, opening)
+/// let opening = Opening::new(alloc, hashing, &users, limits, 1)?;
+/// with_loader::<Brand, _, _>(rt, alloc, &users, opening)
 /// ```
 #[derive(Drop)]
 pub struct Opening<'s, S: Source> {

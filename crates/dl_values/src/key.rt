@@ -146,7 +146,7 @@ fn have_lengths(table: &[u8], id: &[u8]) -> bool
 /// Equality and order go by the table and then by the id, byte by byte. A hash reads both in one go.
 ///
 /// # Examples
-/// Makes a key and loads it, from `crates/example_one_caller`:
+/// Makes a key and loads it, from `crates/example_loaders/src/one_caller.rt`:
 ///
 /// ```rust
 /// let key = FetchKey::new(alloc, "user", "u1")?;

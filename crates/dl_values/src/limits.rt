@@ -14,11 +14,11 @@ pub const LARGEST_LIMIT: u32 = 65_536;
 ///
 /// # Examples
 /// Opens a loader for one caller with 64 keys in a batch, 1,024 cells and 4,096 calls at most, from
-/// `crates/example_one_caller`:
+/// `crates/example_loaders/src/one_caller.rt`:
 ///
 /// ```rust
 /// let limits = Limits::new(64, 1_024, 4_096)?;
-/// let opening = Opening::new(rt.alloc(), hashing, &users, limits, 1)?;
+/// let opening = Opening::new(alloc, hashing, &users, limits, 1)?;
 /// ```
 #[derive(Clone, Copy, Debug)]
 pub struct Limits {

@@ -32,7 +32,7 @@ pub enum WorkerEnd {
 /// that are left, until the queue is shut, and drops them.
 ///
 /// # Examples
-/// From `crates/example_worker`, with a gate that does nothing:
+/// From `crates/example_loaders/src/worker.rt`, with a gate that does nothing:
 ///
 /// ```rust
 /// let end = work(rt, alloc, loader, source, &mut worker, &queue, taker, gate);

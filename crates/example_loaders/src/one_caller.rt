@@ -1,5 +1,4 @@
 //! One caller with a loader of its own: you open it, load a key, read the outcome, and close it.
-#![tactic(auto)]
 
 ghost use Rattle.std.specs.Prelude.{◌≡◌};
 ghost use Rattle.dl_desk.specs.Service.{Answers};
@@ -15,12 +14,12 @@ use std::hash::RandomState;
 use std::marker::Brand;
 use std::sync::Wait;
 
-fn main(rt: HostRuntime) -> Result<()> {
-    let hashing = RandomState::new(&rt)?;
-    let users = users(rt.alloc(), hashing)?;
+/// Opens a loader for one caller over a table of users, and uses it.
+pub(crate) fn run<R: Wait + Print>(rt: &R, alloc: Global, hashing: RandomState) -> Result<()> {
+    let users = users(alloc, hashing)?;
     let limits = Limits::new(64, 1_024, 4_096)?;
-    let opening = Opening::new(rt.alloc(), hashing, &users, limits, 1)?;
-    with_loader::<Brand, _, _>(&rt, rt.alloc(), &users, opening)
+    let opening = Opening::new(alloc, hashing, &users, limits, 1)?;
+    with_loader::<Brand, _, _>(rt, alloc, &users, opening)
 }
 
 /// The source: a table of users.

@@ -1,6 +1,5 @@
 //! Two callers and a fetch worker over a queue, each table with a limit of its own. They take turns on one thread, so
 //! that the history is always the same.
-#![tactic(auto)]
 
 ghost use Rattle.std.specs.Prelude.{◌≡◌};
 ghost use Rattle.dl_desk.specs.Service.{Answers};
@@ -18,13 +17,13 @@ use std::hash::RandomState;
 use std::marker::Brand;
 use std::sync::Wait;
 
-fn main(rt: HostRuntime) -> Result<()> {
-    let (alloc, hashing) = (rt.alloc(), RandomState::new(&rt)?);
+/// Opens a loader for two callers and a worker over the tables of a blog, and uses it.
+pub(crate) fn run<R: Wait + Print>(rt: &R, alloc: Global, hashing: RandomState) -> Result<()> {
     let blog = blog(alloc, hashing)?;
     let limits = Limits::new(64, 1_024, 4_096)?;
     let tables = one_post_each(alloc)?;
     let opening = Opening::by_table(alloc, hashing, &blog, limits, tables, 3)?;
-    with_loader::<Brand, _, _>(&rt, alloc, &blog, opening)
+    with_loader::<Brand, _, _>(rt, alloc, &blog, opening)
 }
 
 /// The source: the posts of a blog, and who wrote them.

@@ -1,7 +1,7 @@
 use Rattle.dl_values.specs.Answering.{function}
 use Rattle.dl_loader.specs.Opening.{service_of}
 use Rattle.dl_source.specs.Answer.{answer_of}
-use Rattle.example_one_caller.proofs.main.Given as goal
+use Rattle.example_loaders.proofs.worker.run.Given as goal
 
 -- the type names the loader after its opening
 abbrev pub ghosts-with_loader-L-LoaderName : goal.ghosts-with_loader-L-LoaderName
