@@ -1,6 +1,7 @@
 -- How the fault of a term comes from one of its parts.
 use Rattle.std.proofs.Common.{◌≡◌, ◌∙◌, ap, sym, subst, refl, ℕ, suc, ◌+◌, ◌<◌, ◌≤◌, List, [], ◌∷◌, ◌++◌, length, map, drop, take, get_or, Option, Some, None, append_assoc, arith}
-use Rattle.std.specs.Prelude.{option_map, option_and_then, reverse, Result, Ok, Err}
+use Rattle.std.specs.Prelude.{option_map, option_and_then, reverse, Result, Ok, Err, IfNone, IfSome, Vec}
+use Rattle.std.specs.declared.alloc.Global.{Global}
 use Rattle.std.proofs.Common.{inl, inr}
 use Rattle.std.specs.List.{AllZip}
 use Rattle.std.proofs.lemmas.List.{length-append, length-map, length-take, map-append, reverse-append, take-append-drop, take_more}
@@ -25,7 +26,7 @@ use Rattle.dl_terms.specs.declared.answer.EvalFault.TheVariants as why
 use Rattle.dl_terms.specs.declared.term.Term.{Term}
 use Rattle.dl_picture.specs.FaultPath.{at_item, ComesFrom, copies_after, copies_over, EndsWith, HasOwnFault, HasValue, IsLeftmost, IsOf}
 use Rattle.dl_picture.specs.FaultPath.{LeadsTo, list_of, MayEndWith, Meets, parts_of}
-use Rattle.dl_picture.specs.Seeking.{AreItems, AreTogether, FailsAs, FailsAtFirst, id_answer, ids_answer, IsItem, IsOver, IsTogether, value_ending}
+use Rattle.dl_picture.specs.Seeking.{AreItems, AreTogether, FailsAs, FailsAtFirst, id_answer, ids_answer, IsAdded, IsItem, IsOver, IsTogether, MayBeItem, value_ending}
 use Rattle.dl_picture.specs.declared.origin.Met.TheVariants as met
 use Rattle.dl_picture.specs.declared.origin.Origin.{Origin}
 use Rattle.dl_picture.specs.declared.origin.PathStep.{PathStep}
@@ -617,3 +618,33 @@ endings_push known f xs i x lt is es more e h own pushed =
     ap (map f) (take_more xs i x lt ∙ ap (λ y. take i xs ++ y ∷ []) (sym is)) ∙ map-append f (take i xs) (x ∷ []) in
     subst (λ l. AllZip (EndsWith known) l more) (sym front)
     (subst (λ l. AllZip (EndsWith known) (before ++ f x ∷ []) l) (sym pushed) (zip_push (EndsWith known) before es (f x) e h own))
+
+-- ---- one step of a loop over parts of which one may wait
+
+pub items_add : (known : Key → Option Outcome) (term : Term) (table : Name) (ids : List JsonValue) (i : ℕ) (x : JsonValue) → i < length ids → x ≡ get_or ids i x
+    → (before : Option (Vec (Result Data Origin) Global)) (e : Option (Result Data Origin)) (more : Option (Vec (Result Data Origin) Global))
+    → IfSome before (λ es. AreItems known term table 0 (take i ids) es.items)
+    → IfNone before (target_answers known (item_targets table (items_view ids)) ≡ None) → MayBeItem known term table i x e → IsAdded before e more
+    → IfSome more (λ es. AreItems known term table 0 (take (i + 1) ids) es.items)
+    × IfNone more (target_answers known (item_targets table (items_view ids)) ≡ None)
+items_add known term table ids i x lt is None e None are waits own added = (tt, waits)
+items_add known term table ids i x lt is None e (Some ms) are waits own added = absurd added
+items_add known term table ids i x lt is (Some es) None None are waits own added =
+    (tt, ids_collected known table ids ∙ waits_at (id_answer known table) ids i x lt is own)
+items_add known term table ids i x lt is (Some es) None (Some ms) are waits own added = absurd added
+items_add known term table ids i x lt is (Some es) (Some e) None are waits own added = absurd added
+items_add known term table ids i x lt is (Some es) (Some e) (Some ms) are waits own added =
+    (items_push known term table ids i x lt is es.items ms.items e are own added, tt)
+
+pub endings_add : {X : Type 0} (known : Key → Option Outcome) (f : X → Tree) (xs : List X) (i : ℕ) (x : X) → i < length xs → x ≡ get_or xs i x
+    → (before : Option (Vec (Result Data Origin) Global)) (e : Option (Result Data Origin)) (more : Option (Vec (Result Data Origin) Global))
+    → IfSome before (λ es. AllZip (EndsWith known) (map f (take i xs)) es.items) → IfNone before (answers known (trees_of (map f xs)) ≡ None)
+    → MayEndWith known (f x) e → IsAdded before e more
+    → IfSome more (λ es. AllZip (EndsWith known) (map f (take (i + 1) xs)) es.items) × IfNone more (answers known (trees_of (map f xs)) ≡ None)
+endings_add known f xs i x lt is None e None are waits own added = (tt, waits)
+endings_add known f xs i x lt is None e (Some ms) are waits own added = absurd added
+endings_add known f xs i x lt is (Some es) None None are waits own added =
+    (tt, mapped_collected known f xs ∙ waits_at (λ y. answer known (f y)) xs i x lt is own)
+endings_add known f xs i x lt is (Some es) None (Some ms) are waits own added = absurd added
+endings_add known f xs i x lt is (Some es) (Some e) None are waits own added = absurd added
+endings_add known f xs i x lt is (Some es) (Some e) (Some ms) are waits own added = (endings_push known f xs i x lt is es.items ms.items e are own added, tt)

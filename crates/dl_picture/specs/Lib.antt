@@ -5,5 +5,4 @@ pub mod Numbers
 pub mod Script
 pub mod Seeking
 pub mod TermLoads
-pub mod Together
 pub mod Xml

@@ -1,5 +1,6 @@
 -- What parts of a term end with, on the way to where the term's fault comes from.
-use Rattle.std.specs.Prelude.{◌≡◌, ℕ, suc, List, [], ◌∷◌, ◌++◌, length, map, Option, Some, None, option_map, Result, Ok, Err}
+use Rattle.std.specs.Prelude.{◌≡◌, ℕ, suc, List, [], ◌∷◌, ◌++◌, length, map, Option, Some, None, option_map, Result, Ok, Err, Vec}
+use Rattle.std.specs.declared.alloc.Global.{Global}
 use Rattle.serde_json.specs.Data.{Data}
 use Rattle.serde_json.specs.View.{items_of, items_view, view}
 use Rattle.serde_json.specs.declared.value.Value.{Value as JsonValue}
@@ -26,6 +27,31 @@ value_ending d = Ok d
 abbrev pub Gathers : Joint → List (Result Data Origin) → Result Data (ℕ × Origin) → Type 0
 Gathers j endings (Ok d) = (vs : List Data) × (endings ≡ map value_ending vs) × (d ≡ joined_data j (items_of vs))
 Gathers j endings (Err e) = (vs : List Data) × (rest : List (Result Data Origin)) × (endings ≡ map value_ending vs ++ Err e.1 ∷ rest) × (length vs ≡ e.0)
+
+-- with the ending of one part more, unless one waits
+abbrev pub IsAdded : Option (Vec (Result Data Origin) Global) → Option (Result Data Origin) → Option (Vec (Result Data Origin) Global) → Type 0
+IsAdded None e None = Unit {0}
+IsAdded None e (Some more) = ⊥
+IsAdded (Some es) None None = Unit {0}
+IsAdded (Some es) None (Some more) = ⊥
+IsAdded (Some es) (Some e) None = ⊥
+IsAdded (Some es) (Some e) (Some more) = more.items ≡ es.items ++ e ∷ []
+
+-- the value with which a term ends, if it does
+abbrev pub value_of : Option (Result Data Origin) → Option Data
+value_of None = None
+value_of (Some (Ok d)) = Some d
+value_of (Some (Err o)) = None
+
+-- the value that there is, in place of an ending without one
+abbrev pub value_in : Result Data (Option (Result Data Origin)) → Option Data
+value_in (Ok d) = Some d
+value_in (Err ending) = None
+
+-- the loads that go on from a value, if there is one
+abbrev pub loads_of_value : Option Data → (Data → ℕ) → ℕ
+loads_of_value None next = 0
+loads_of_value (Some d) next = next d
 
 -- the origin of the fault with which a term ends, if it does
 abbrev pub origin_of : Option (Result Data Origin) → Option Origin

@@ -1,17 +1,16 @@
 //! How many loads the terms of plans ask for, by the rounds in which they read.
 
-ghost use Rattle.std.specs.Prelude.{◌≡◌, ◌+◌, ◌≤◌, ◌&&◌, ℕ, List, [], IfOk, OnOk, drop, is_some, length, map, nat_eq, option_copied, slice_get, take};
+ghost use Rattle.std.specs.Prelude.{◌≡◌, ◌+◌, ◌≤◌, ◌&&◌, ℕ, List, [], IfOk, OnOk, drop, length, map, nat_eq, option_copied, slice_get, take};
 ghost use Rattle.indexmap.specs.IndexMap.{insert_entry};
 ghost use Rattle.dl_values.specs.Key.{key_eq};
 ghost use Rattle.dl_history.specs.Entries.{cell_of_load};
 ghost use Rattle.dl_desk.specs.declared.event.Event.{Event};
 ghost use Rattle.dl_picture.specs.Numbers.{is_round, round_events};
-ghost use Rattle.dl_picture.specs.TermLoads.{known_by, loads_asked, loads_in, rounds_after, term_loads, terms_loads, trees_of_terms, with_call, with_loads};
-ghost use Rattle.dl_terms.specs.TermAnswers.{answer};
+ghost use Rattle.dl_picture.specs.TermLoads.{loads_asked, loads_in, rounds_after, terms_loads, trees_of_terms, with_call, with_loads};
 ghost use Rattle.dl_terms.specs.View.{term_view};
 
-use crate::knowledge::Knowledge;
 use crate::loads::{is_round, sum};
+use crate::origins::read_term;
 use dl_desk::{FetchKey, LoadReply};
 use dl_history::{Call, Event, Events, History, Reply, load_cell};
 use dl_terms::Term;
@@ -144,35 +143,8 @@ fn term_loads(
     ensures left { IfOk result (λ r. drop r.1 (map (λ e. e.now) rounds.now) ≡ rounds_after history.now.events (term_view term.now) [] (map (λ e. e.now) rounds.now)) }
     ensures within { IfOk result (λ r. r.1 ≤ length rounds.now) }
 {
-    let mut cells = IndexMap::with_hasher(alloc, hashing);
-    for (place, round) in rounds.iter().enumerate() {
-        let (loads, ends) = loads_known(alloc, history, &cells, term)?;
-        if ends {
-            return Ok((loads, place));
-        }
-        read_round(&mut cells, *round)?;
-    }
-    let (loads, _) = loads_known(alloc, history, &cells, term)?;
-    Ok((loads, rounds.len()))
-}
-
-/// The loads that a term asks for that has read these cells, and whether it has its answer then.
-fn loads_known(
-    alloc: Global,
-    history: &History,
-    cells: &Cells,
-    term: &Term,
-) -> Result<(u64, bool), AllocError>
-    ensures loads { IfOk result (λ r. r.0 ≡ term_loads (known_by history.now.events cells.now.entries) (term_view term.now)) }
-    ensures ends { IfOk result (λ r. is_some (answer (known_by history.now.events cells.now.entries) (term_view term.now)) ≡ r.1) }
-{
-    let known = Knowledge {
-        alloc,
-        history,
-        cells,
-    };
-    let asking = known.ask(term, None)?;
-    Ok((asking.loads, asking.answer.is_some()))
+    let (_, loads, read) = read_term(alloc, hashing, history, term, rounds)?;
+    Ok((loads, read))
 }
 
 /// Reads the loads of a round.

@@ -1,154 +1,83 @@
-//! What parts of a term asked for, and what they answer.
+//! What a term asks for: how many loads, and which of its parts wait.
 
-ghost use Rattle.std.specs.Prelude.{◌≡◌, ◌+◌, Option, Some, List, [], IfOk, MatchResult, OnOk, option_map};
-ghost use Rattle.serde_json.specs.View.{items_of};
-ghost use Rattle.dl_terms.specs.TermAnswers.{both, gather, joined_as, joined_data};
-ghost use Rattle.dl_terms.specs.declared.answer.Answer.{Answer};
-ghost use Rattle.dl_terms.specs.declared.answer.Answer.TheVariants as answer;
-ghost use Rattle.dl_picture.specs.Asking.{Asks, IsNoValue, joint_by};
-ghost use Rattle.dl_picture.specs.Together.{so_far};
+ghost use Rattle.std.specs.Prelude.{◌≡◌, ◌+◌, OnOk};
 
 use crate::loads::sum;
-use dl_terms::{Answer, AnswerValue, EvalFault, Names};
+use dl_desk::FetchKey;
+use dl_values::Text;
 use std::alloc::{AllocError, Global};
 
-/// How many loads a part of a term asked for, and its answer, unless it waits for a key that wasn't read.
-#[derive(Drop)]
-pub(crate) struct Asking {
-    pub(crate) loads: u64,
-    pub(crate) answer: Option<Answer>,
+/// What waits for a load.
+#[derive(Clone, Copy)]
+pub(crate) enum Loading<'t> {
+    /// The load of a key.
+    Load(&'t FetchKey),
+    /// A follow of a field.
+    Follow(&'t Text),
+    /// An each over a field.
+    Each(&'t Text),
 }
 
-impl Asking {
-    /// An answer without a load.
-    pub(crate) fn of(answer: Answer) -> Asking
-        ensures { Asks 0 (Some answer) result }
+/// What the parts of a term ask for that were evaluated so far.
+#[derive(Drop)]
+pub(crate) struct Asking<'t> {
+    /// How many loads.
+    pub(crate) loads: u64,
+    /// The leftmost part that waits, if one does.
+    pub(crate) first: Option<Loading<'t>>,
+    /// In bodies, the places of the items around that part, or around the one at hand if none waits, the outermost first.
+    pub(crate) places: Vec<usize>,
+    /// How many other parts wait.
+    pub(crate) others: u64,
+}
+
+impl<'t> Asking<'t> {
+    /// Of no part yet.
+    pub(crate) fn new(alloc: Global) -> Asking<'t>
+        ensures { result.loads ≡ 0 }
     {
         Asking {
             loads: 0,
-            answer: Some(answer),
+            first: None,
+            places: Vec::new(alloc),
+            others: 0,
         }
     }
 
-    /// The loads and the value, from which more may go on, or itself if it has no value.
-    pub(crate) fn into_value(self) -> Result<(u64, AnswerValue), Asking>
-        ensures { MatchResult result (λ p. Asks p.0 (Some (answer.Value p.1)) self) (λ asking. (asking ≡ self) × IsNoValue self.answer) }
+    /// With one load more. Fails if no number holds the loads.
+    pub(crate) fn load(&mut self) -> Result<(), AllocError>
+        ensures { OnOk result (self.new.loads ≡ self.old.loads + 1) }
     {
-        let Asking { loads, answer } = self;
-        match answer {
-            Some(Answer::Value(value)) => Ok((loads, value)),
-            Some(Answer::Fault(fault)) => Err(Asking {
-                loads,
-                answer: Some(Answer::Fault(fault)),
-            }),
-            None => Err(Asking {
-                loads,
-                answer: None,
-            }),
+        self.loads = sum(self.loads, 1)?;
+        Ok(())
+    }
+
+    /// With one part more that waits.
+    pub(crate) fn wait(&mut self, part: Loading<'t>)
+        ensures { self.new.loads ≡ self.old.loads }
+    {
+        match self.first {
+            None => self.first = Some(part),
+            Some(_) => self.others = self.others.saturating_add(1),
         }
     }
 
-    /// The same with the loads of what it goes on from. Fails if no number holds the loads.
-    pub(crate) fn after(self, loads: u64) -> Result<Asking, AllocError>
-        ensures { IfOk result (Asks (loads + self.loads) self.answer) }
+    /// Goes into a body, for the item at this place. Fails if memory runs out.
+    pub(crate) fn enter(&mut self, place: usize) -> Result<(), AllocError>
+        ensures { OnOk result (self.new.loads ≡ self.old.loads) }
     {
-        let Asking {
-            loads: more,
-            answer,
-        } = self;
-        let loads = sum(loads, more)?;
-        Ok(Asking { loads, answer })
-    }
-}
-
-/// What parts asked for and answer together, one after another.
-#[derive(Drop)]
-pub(crate) struct Together {
-    pub(crate) loads: u64,
-    /// Whether one of them waits.
-    waits: bool,
-    /// The fault of the leftmost that has one.
-    fault: Option<EvalFault>,
-    /// The values of those without.
-    values: Vec<AnswerValue>,
-}
-
-impl Together {
-    /// Of no parts yet.
-    pub(crate) fn new(alloc: Global) -> Together
-        ensures loads { result.loads ≡ 0 }
-        ensures gives { (rest : Option (List Answer)) → so_far result rest ≡ option_map gather rest }
-    {
-        Together {
-            loads: 0,
-            waits: false,
-            fault: None,
-            values: Vec::new(alloc),
-        }
-    }
-
-    /// With one part more. Fails if no number holds the loads, or if memory runs out.
-    pub(crate) fn push(&mut self, asking: Asking) -> Result<(), AllocError>
-        ensures loads { OnOk result (self.new.loads ≡ self.old.loads + asking.loads) }
-        ensures gives { OnOk result ((rest : Option (List Answer)) → so_far self.new rest ≡ so_far self.old (both asking.answer rest)) }
-    {
-        let Asking { loads, answer } = asking;
-        self.loads = sum(self.loads, loads)?;
-        match answer {
-            Some(Answer::Value(value)) => self.values.push(value)?,
-            Some(Answer::Fault(fault)) => self.note(fault),
-            None => self.waits = true,
+        if self.first.is_none() {
+            self.places.push(place)?;
         }
         Ok(())
     }
 
-    /// With a fault, if it is the first.
-    fn note(&mut self, fault: EvalFault)
-        ensures loads { self.new.loads ≡ self.old.loads }
-        ensures gives { (rest : Option (List Answer)) → so_far self.new rest ≡ so_far self.old (both (Some (answer.Fault fault)) rest) }
+    /// Leaves the body. What waits in it keeps its places.
+    pub(crate) fn leave(&mut self)
+        ensures { self.new.loads ≡ self.old.loads }
     {
-        if self.fault.is_none() {
-            self.fault = Some(fault);
+        if self.first.is_none() {
+            self.places.pop();
         }
-    }
-
-    /// What they ask for, and their list, or the object of these names. Fails if memory runs out.
-    pub(crate) fn finish(self, alloc: Global, names: Option<&Names>) -> Result<Asking, AllocError>
-        ensures { IfOk result (Asks self.loads (option_map (joined_as (joint_by names.entry)) (so_far self (Some [])))) }
-    {
-        let Together {
-            loads,
-            waits,
-            fault,
-            values,
-        } = self;
-        if waits {
-            return Ok(Asking {
-                loads,
-                answer: None,
-            });
-        }
-        let answer = match fault {
-            Some(fault) => Answer::Fault(fault),
-            None => Answer::Value(joined(alloc, names, values)?),
-        };
-        Ok(Asking {
-            loads,
-            answer: Some(answer),
-        })
-    }
-}
-
-/// The list of values, or the object of these names. Fails if memory runs out.
-pub(crate) fn joined(
-    alloc: Global,
-    names: Option<&Names>,
-    values: Vec<AnswerValue>,
-) -> Result<AnswerValue, AllocError>
-    ensures { IfOk result (λ v. v ≡ joined_data (joint_by names.entry) (items_of values.items)) }
-{
-    match names {
-        None => Ok(AnswerValue::list(values)),
-        Some(names) => AnswerValue::object(alloc, names, values),
     }
 }

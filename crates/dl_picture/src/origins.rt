@@ -1,13 +1,14 @@
-//! Where the faults of a plan's terms come from, by the rounds in which the terms read.
+//! Where the faults of a plan's terms come from, and how many loads the terms ask for, by the rounds in which they read.
 
 ghost use Rattle.std.specs.Prelude.{◌≡◌, ◌≤◌, [], IfOk, drop, length, map};
 ghost use Rattle.dl_picture.specs.FaultPath.{HasOrigin, HaveOrigins, MayEndWith};
 ghost use Rattle.dl_picture.specs.Numbers.{round_events};
 ghost use Rattle.dl_picture.specs.Seeking.{origin_of};
-ghost use Rattle.dl_picture.specs.TermLoads.{known_by, rounds_after};
+ghost use Rattle.dl_picture.specs.TermLoads.{known_by, loads_in, rounds_after, term_loads};
 ghost use Rattle.dl_terms.specs.View.{term_view};
 
 use crate::asked::{Cells, read_round, rounds_of};
+use crate::asking::Asking;
 use crate::knowledge::Knowledge;
 use crate::origin::{Ending, Origin};
 use dl_history::{Event, History};
@@ -49,67 +50,74 @@ fn origins_of<'t>(
     let mut passed = 0;
     for term in terms {
         let (_, left) = rounds.split_at(passed);
-        let (origin, read) = term_origin(alloc, hashing, history, term, left)?;
+        let (origin, _, read) = read_term(alloc, hashing, history, term, left)?;
         origins.push_reserved(origin);
         passed += read;
     }
     Ok(origins)
 }
 
-/// The origin of a term's fault, if it has one, and how many of these rounds the term reads until it has its answer.
-fn term_origin<'t>(
+/// The origin of a term's fault, if it has one, how many loads the term asks for, and how many of these rounds it reads
+/// until it has its answer.
+pub(crate) fn read_term<'t>(
     alloc: Global,
     hashing: RandomState,
     history: &History,
     term: &'t Term,
     rounds: &[&Event],
-) -> Result<(Option<Origin<'t>>, usize), AllocError>
+) -> Result<(Option<Origin<'t>>, u64, usize), AllocError>
     ensures origin { IfOk result (λ r. HasOrigin history.now.events (term_view term.now) (map (λ e. e.now) rounds.now) r.0) }
-    ensures left { IfOk result (λ r. drop r.1 (map (λ e. e.now) rounds.now) ≡ rounds_after history.now.events (term_view term.now) [] (map (λ e. e.now) rounds.now)) }
-    ensures within { IfOk result (λ r. r.1 ≤ length rounds.now) }
+    ensures loads { IfOk result (λ r. r.1 ≡ loads_in history.now.events (term_view term.now) [] (map (λ e. e.now) rounds.now)) }
+    ensures left { IfOk result (λ r. drop r.2 (map (λ e. e.now) rounds.now) ≡ rounds_after history.now.events (term_view term.now) [] (map (λ e. e.now) rounds.now)) }
+    ensures within { IfOk result (λ r. r.2 ≤ length rounds.now) }
 {
     let mut cells = IndexMap::with_hasher(alloc, hashing);
-    origin_read(alloc, history, &mut cells, term, rounds)
+    read_rounds(alloc, history, &mut cells, term, rounds)
 }
 
 /// The same, by reading the rounds into these cells, of which there are none yet.
-fn origin_read<'t>(
+fn read_rounds<'t>(
     alloc: Global,
     history: &History,
     cells: &mut Cells,
     term: &'t Term,
     rounds: &[&Event],
-) -> Result<(Option<Origin<'t>>, usize), AllocError>
+) -> Result<(Option<Origin<'t>>, u64, usize), AllocError>
     requires { cells.old.entries ≡ [] }
     ensures origin { IfOk result (λ r. HasOrigin history.now.events (term_view term.now) (map (λ e. e.now) rounds.now) r.0) }
-    ensures left { IfOk result (λ r. drop r.1 (map (λ e. e.now) rounds.now) ≡ rounds_after history.now.events (term_view term.now) [] (map (λ e. e.now) rounds.now)) }
-    ensures within { IfOk result (λ r. r.1 ≤ length rounds.now) }
+    ensures loads { IfOk result (λ r. r.1 ≡ loads_in history.now.events (term_view term.now) [] (map (λ e. e.now) rounds.now)) }
+    ensures left { IfOk result (λ r. drop r.2 (map (λ e. e.now) rounds.now) ≡ rounds_after history.now.events (term_view term.now) [] (map (λ e. e.now) rounds.now)) }
+    ensures within { IfOk result (λ r. r.2 ≤ length rounds.now) }
 {
     for (place, round) in rounds.iter().enumerate() {
-        match ending_known(alloc, history, cells, term)? {
+        let (ending, loads) = ending_known(alloc, history, cells, term)?;
+        match ending {
             None => read_round(cells, *round)?,
-            ending => return Ok((origin_of(ending), place)),
+            ending => return Ok((origin_of(ending), loads, place)),
         }
     }
-    let ending = ending_known(alloc, history, cells, term)?;
-    Ok((origin_of(ending), rounds.len()))
+    let (ending, loads) = ending_known(alloc, history, cells, term)?;
+    Ok((origin_of(ending), loads, rounds.len()))
 }
 
-/// What a term ends with that has read these cells, or `None` if it waits.
+/// What a term ends with that has read these cells, or `None` if it waits, and how many loads it asks for.
 fn ending_known<'t>(
     alloc: Global,
     history: &History,
     cells: &Cells,
     term: &'t Term,
-) -> Result<Option<Ending<'t>>, AllocError>
-    ensures { IfOk result (MayEndWith (known_by history.now.events cells.now.entries) (term_view term.now)) }
+) -> Result<(Option<Ending<'t>>, u64), AllocError>
+    ensures ends { IfOk result (λ r. MayEndWith (known_by history.now.events cells.now.entries) (term_view term.now) r.0) }
+    ensures loads { IfOk result (λ r. r.1 ≡ term_loads (known_by history.now.events cells.now.entries) (term_view term.now)) }
 {
     let known = Knowledge {
         alloc,
         history,
         cells,
     };
-    known.seek(term, None)
+    let mut asking = Asking::new(alloc);
+    let ending = known.seek(term, None, &mut asking)?;
+    Ok((ending, asking.loads))
 }
 
 /// The origin of the fault with which a term ends, if it does.

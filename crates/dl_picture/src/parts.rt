@@ -2,51 +2,17 @@
 //! end in faults of their terms' own forms.
 
 use crate::asked::{Cells, read_round};
+use crate::asking::{Asking, Loading};
 use crate::faults::{Ends, StepFault, faults_after, push_end, step_fault};
 use crate::knowledge::Knowledge;
 use crate::origin::Origin;
 use crate::origins::fault_origins;
 use crate::sheet::Sheet;
-use dl_desk::FetchKey;
 use dl_history::{Call, Event, Events, History};
 use dl_terms::Term;
-use dl_values::Text;
 use indexmap::IndexMap;
 use std::alloc::{AllocError, Global};
 use std::hash::RandomState;
-
-/// What waits for a load.
-#[derive(Clone, Copy)]
-pub(crate) enum Loading<'t> {
-    /// The load of a key.
-    Load(&'t FetchKey),
-    /// A follow of a field.
-    Follow(&'t Text),
-    /// An each over a field.
-    Each(&'t Text),
-}
-
-/// The parts of a term that wait.
-#[derive(Drop)]
-pub(crate) struct Waiting<'t> {
-    /// The leftmost.
-    pub(crate) first: Loading<'t>,
-    /// In bodies, the places of the items around it, the innermost first.
-    pub(crate) places: Vec<usize>,
-    /// How many others there are.
-    pub(crate) others: u64,
-}
-
-impl Waiting<'_> {
-    /// Appends the first: the places of the items, its form, and the key or the field.
-    fn push_to(&self, sheet: &mut Sheet) {
-        for place in self.places.iter().rev() {
-            sheet.push_number("item ", *place as u64);
-            sheet.push(": ");
-        }
-        self.first.push_to(sheet);
-    }
-}
 
 impl Loading<'_> {
     /// Appends it: its form, and the key or the field.
@@ -298,20 +264,31 @@ fn part_waiting(
         history,
         cells,
     };
-    match known.waiting(term, None)? {
-        Some(waiting) => Ok(Some(part_text(alloc, step, &waiting)?)),
+    let mut asking = Asking::new(alloc);
+    known.seek(term, None, &mut asking)?;
+    match asking.first {
+        Some(first) => Ok(Some(part_text(alloc, step, first, &asking)?)),
         None => Ok(None),
     }
 }
 
-/// The text of a step's number, the first part that waits, and how many others do.
-fn part_text(alloc: Global, step: u64, waiting: &Waiting<'_>) -> Result<String, AllocError> {
+/// The text of a step's number, the first part that waits with the places of the items around it, and how many others do.
+fn part_text(
+    alloc: Global,
+    step: u64,
+    first: Loading<'_>,
+    asking: &Asking<'_>,
+) -> Result<String, AllocError> {
     let mut sheet = Sheet::new(alloc);
     sheet.push_number("eval ", step);
     sheet.push(": ");
-    waiting.push_to(&mut sheet);
-    if waiting.others > 0 {
-        sheet.push_number(" +", waiting.others);
+    for place in &asking.places {
+        sheet.push_number("item ", *place as u64);
+        sheet.push(": ");
+    }
+    first.push_to(&mut sheet);
+    if asking.others > 0 {
+        sheet.push_number(" +", asking.others);
     }
     sheet.finish()
 }

@@ -1,20 +1,22 @@
-//! What a term ends with, by the outcomes of the loads that were read, and where its fault comes from.
+//! What a term ends with, by the outcomes of the loads that were read, where its fault comes from, and which loads it asks
+//! for.
 
-ghost use Rattle.std.specs.Prelude.{◌≡◌, ◌≤◌, [], ℕ, List, None, Some, IfOk, IfNone, IfSome, map, option_copied};
+ghost use Rattle.std.specs.Prelude.{◌≡◌, ◌≤◌, ◌+◌, [], ℕ, List, None, Some, IfOk, IfNone, IfSome, OnOk, map, option_copied};
 ghost use Rattle.std.specs.List.{AllZip};
 ghost use Rattle.serde_json.specs.Data.{Data};
-ghost use Rattle.serde_json.specs.Find.{get};
-ghost use Rattle.serde_json.specs.View.{items_view, view};
+ghost use Rattle.serde_json.specs.Find.{as_array, get};
+ghost use Rattle.serde_json.specs.View.{items_of, items_view, view};
 ghost use Rattle.serde_json.specs.declared.value.Value.{Value as JsonValue};
 ghost use Rattle.dl_picture.specs.Asking.{joint_by, known_of};
 ghost use Rattle.dl_picture.specs.FaultPath.{EndsWith, IsOf, MayEndWith, at_item};
-ghost use Rattle.dl_picture.specs.Seeking.{AreItems, AreTogether, EndsInside, Gathers, IsOver, IsTogether, MayBeItem};
+ghost use Rattle.dl_picture.specs.Seeking.{AreItems, AreTogether, EndsInside, Gathers, IsAdded, IsOver, IsTogether, MayBeItem, loads_of_value, value_in, value_of};
+ghost use Rattle.dl_picture.specs.TermLoads.{all_loads_at, copies_load, copy_loads, each_loads, loads_at, target_loads, targets_loads};
 ghost use Rattle.dl_terms.specs.Tree.{Tree, each, follow, load, over, pick, the_item, with_item};
-ghost use Rattle.dl_terms.specs.TermAnswers.{answer, answers, item_targets, load_answer, target_answer, target_answers, value_target};
+ghost use Rattle.dl_terms.specs.TermAnswers.{answer, answers, item_targets, joined_data, list_targets, listed, load_answer, picked, target_answer, target_answers, target_in, targets_in, value_target};
 ghost use Rattle.dl_terms.specs.declared.answer.Answer.TheVariants as answer;
-ghost use Rattle.dl_terms.specs.View.{term_view, trees_of};
+ghost use Rattle.dl_terms.specs.View.{term_view, terms_view, trees_of};
 
-use crate::asking::joined;
+use crate::asking::{Asking, Loading};
 use crate::knowledge::{Knowledge, MOST_ITEMS};
 use crate::origin::{Ending, Met, Origin};
 use dl_desk::FetchKey;
@@ -42,11 +44,47 @@ fn gathered<'t>(
     Ok(Ok(joined(alloc, names, values)?))
 }
 
+/// The list of values, or the object of these names. Fails if memory runs out.
+fn joined(
+    alloc: Global,
+    names: Option<&Names>,
+    values: Vec<AnswerValue>,
+) -> Result<AnswerValue, AllocError>
+    ensures { IfOk result (λ v. v ≡ joined_data (joint_by names.entry) (items_of values.items)) }
+{
+    match names {
+        None => Ok(AnswerValue::list(values)),
+        Some(names) => AnswerValue::object(alloc, names, values),
+    }
+}
+
+/// What parts end with and one part more, or `None` if one of them waits. Fails if memory runs out.
+fn with_ending<'t>(
+    before: Option<Vec<Ending<'t>>>,
+    ending: Option<Ending<'t>>,
+) -> Result<Option<Vec<Ending<'t>>>, AllocError>
+    ensures { IfOk result (IsAdded before.entry ending.entry) }
+{
+    match (before, ending) {
+        (Some(mut endings), Some(ending)) => {
+            endings.push(ending)?;
+            Ok(Some(endings))
+        }
+        _ => Ok(None),
+    }
+}
+
 impl Knowledge<'_, '_> {
     /// What the load of a key answers, if it was read.
-    fn answer_of_key(&self, key: &FetchKey) -> Result<Option<Answer>, AllocError>
-        ensures { IfOk result (λ a. a ≡ load_answer (known_of self.now) key.now) }
+    fn answer_of_key(
+        &self,
+        key: &FetchKey,
+        asking: &mut Asking<'_>,
+    ) -> Result<Option<Answer>, AllocError>
+        ensures answer { IfOk result (λ a. a ≡ load_answer (known_of self.now) key.now) }
+        ensures loads { OnOk result (asking.new.loads ≡ asking.old.loads + 1) }
     {
+        asking.load()?;
         match self.outcome(key) {
             Some(outcome) => Ok(Some(loaded(key, outcome)?)),
             None => Ok(None),
@@ -54,11 +92,17 @@ impl Knowledge<'_, '_> {
     }
 
     /// What the load of a value as an id of a table answers, if it was read.
-    fn answer_of_id(&self, table: &Text, id: &Value) -> Result<Option<Answer>, AllocError>
-        ensures { IfOk result (λ a. a ≡ target_answer (known_of self.now) (value_target table.now (view id.now))) }
+    fn answer_of_id(
+        &self,
+        table: &Text,
+        id: &Value,
+        asking: &mut Asking<'_>,
+    ) -> Result<Option<Answer>, AllocError>
+        ensures answer { IfOk result (λ a. a ≡ target_answer (known_of self.now) (value_target table.now (view id.now))) }
+        ensures loads { OnOk result (asking.new.loads ≡ asking.old.loads + target_loads (value_target table.now (view id.now))) }
     {
         match self.key_in(table, id)? {
-            Some(key) => self.answer_of_key(&key),
+            Some(key) => self.answer_of_key(&key, asking),
             None => Ok(Some(Answer::Fault(EvalFault::NotAKey))),
         }
     }
@@ -67,12 +111,17 @@ impl Knowledge<'_, '_> {
     fn seek_load<'t>(
         &self,
         term: &'t Term,
-        key: &FetchKey,
+        key: &'t FetchKey,
+        asking: &mut Asking<'t>,
     ) -> Result<Option<Ending<'t>>, AllocError>
-        ensures { (t : Tree) → IsOf t term.now → t ≡ load key.now → IfOk result (MayEndWith (known_of self.now) t) }
+        ensures ends { (t : Tree) → IsOf t term.now → t ≡ load key.now → IfOk result (MayEndWith (known_of self.now) t) }
+        ensures loads { OnOk result (asking.new.loads ≡ asking.old.loads + 1) }
     {
-        match self.answer_of_key(key)? {
-            None => Ok(None),
+        match self.answer_of_key(key, asking)? {
+            None => {
+                asking.wait(Loading::Load(key));
+                Ok(None)
+            }
             Some(Answer::Value(value)) => Ok(Some(Ok(value))),
             Some(Answer::Fault(fault)) => {
                 Ok(Some(Err(Origin::own(self.alloc, term, fault, Met::Outcome))))
@@ -125,16 +174,21 @@ impl Knowledge<'_, '_> {
         &self,
         term: &'t Term,
         value: AnswerValue,
-        field: &Text,
+        field: &'t Text,
         table: &Text,
+        asking: &mut Asking<'t>,
     ) -> Result<Option<Ending<'t>>, AllocError>
-        ensures { (t q : Tree) → answer (known_of self.now) q ≡ Some (answer.Value value) → IsOf t term.now → t ≡ follow q field.now table.now
+        ensures ends { (t q : Tree) → answer (known_of self.now) q ≡ Some (answer.Value value) → IsOf t term.now → t ≡ follow q field.now table.now
             → IfOk result (MayEndWith (known_of self.now) t) }
+        ensures loads { OnOk result (asking.new.loads ≡ asking.old.loads + target_loads (target_in table.now (picked field.now (answer.Value value)))) }
     {
         match value.member(self.alloc, field.as_str())? {
             None => Ok(Some(Err(self.lacks(term, value)))),
-            Some(id) => match self.answer_of_id(table, id.value())? {
-                None => Ok(None),
+            Some(id) => match self.answer_of_id(table, id.value(), asking)? {
+                None => {
+                    asking.wait(Loading::Follow(field));
+                    Ok(None)
+                }
                 Some(Answer::Value(row)) => Ok(Some(Ok(row))),
                 Some(Answer::Fault(fault)) => {
                     let met = Met::Field(id.into_value()?);
@@ -149,15 +203,17 @@ impl Knowledge<'_, '_> {
         &self,
         term: &'t Term,
         value: AnswerValue,
-        field: &Text,
+        field: &'t Text,
         table: &Text,
+        asking: &mut Asking<'t>,
     ) -> Result<Option<Ending<'t>>, AllocError>
-        ensures { (t q : Tree) → answer (known_of self.now) q ≡ Some (answer.Value value) → IsOf t term.now → t ≡ each q field.now table.now
+        ensures ends { (t q : Tree) → answer (known_of self.now) q ≡ Some (answer.Value value) → IsOf t term.now → t ≡ each q field.now table.now
             → IfOk result (MayEndWith (known_of self.now) t) }
+        ensures loads { OnOk result (asking.new.loads ≡ asking.old.loads + targets_loads (targets_in table.now (picked field.now (answer.Value value)))) }
     {
         match value.member(self.alloc, field.as_str())? {
             None => Ok(Some(Err(self.lacks(term, value)))),
-            Some(ids) => self.seek_list(term, table, ids.value()),
+            Some(ids) => self.seek_list(term, table, ids.value(), Loading::Each(field), asking),
         }
     }
 
@@ -167,9 +223,12 @@ impl Knowledge<'_, '_> {
         term: &'t Term,
         table: &Text,
         ids: &Value,
+        itself: Loading<'t>,
+        asking: &mut Asking<'t>,
     ) -> Result<Option<Ending<'t>>, AllocError>
-        ensures { (t q : Tree) (d : Data) (field : List ℕ) → answer (known_of self.now) q ≡ Some (answer.Value d) → get field d ≡ Some (view ids.now)
+        ensures ends { (t q : Tree) (d : Data) (field : List ℕ) → answer (known_of self.now) q ≡ Some (answer.Value d) → get field d ≡ Some (view ids.now)
             → IsOf t term.now → t ≡ each q field table.now → IfOk result (MayEndWith (known_of self.now) t) }
+        ensures loads { OnOk result (asking.new.loads ≡ asking.old.loads + targets_loads (list_targets table.now (as_array (view ids.now)))) }
     {
         match ids.as_array() {
             None => Ok(Some(Err(self.no_ids(term, EvalFault::NotAList, ids)?))),
@@ -177,7 +236,7 @@ impl Knowledge<'_, '_> {
                 if list.len() > MOST_ITEMS {
                     return Ok(Some(Err(self.no_ids(term, EvalFault::TooMany, ids)?)));
                 }
-                self.seek_ids(term, table, list.as_slice())
+                self.seek_ids(term, table, list.as_slice(), itself, asking)
             }
         }
     }
@@ -204,11 +263,17 @@ impl Knowledge<'_, '_> {
         term: &'t Term,
         table: &Text,
         ids: &[Value],
+        itself: Loading<'t>,
+        asking: &mut Asking<'t>,
     ) -> Result<Option<Ending<'t>>, AllocError>
-        ensures { IfOk result (AreTogether (known_of self.now) term.now table.now ids.now) }
+        ensures together { IfOk result (AreTogether (known_of self.now) term.now table.now ids.now) }
+        ensures loads { OnOk result (asking.new.loads ≡ asking.old.loads + each_loads (item_targets table.now (items_view ids.now))) }
     {
-        match self.rows_of(term, table, ids)? {
-            None => Ok(None),
+        match self.rows_of(term, table, ids, asking)? {
+            None => {
+                asking.wait(itself);
+                Ok(None)
+            }
             Some(rows) => match gathered(self.alloc, None, rows)? {
                 Ok(values) => Ok(Some(Ok(values))),
                 Err((_, origin)) => Ok(Some(Err(origin))),
@@ -222,18 +287,17 @@ impl Knowledge<'_, '_> {
         term: &'t Term,
         table: &Text,
         ids: &[Value],
+        asking: &mut Asking<'_>,
     ) -> Result<Option<Vec<Ending<'t>>>, AllocError>
         ensures rows { IfOk result (λ o. IfSome o (λ rows. AreItems (known_of self.now) term.now table.now 0 ids.now rows.items)) }
         ensures waits { IfOk result (λ o. IfNone o (target_answers (known_of self.now) (item_targets table.now (items_view ids.now)) ≡ None)) }
+        ensures loads { OnOk result (asking.new.loads ≡ asking.old.loads + each_loads (item_targets table.now (items_view ids.now))) }
     {
-        let mut rows = Vec::with_capacity(self.alloc, ids.len())?;
+        let mut rows = Some(Vec::with_capacity(self.alloc, ids.len())?);
         for (place, id) in ids.iter().enumerate() {
-            match self.row_of(term, table, place, id)? {
-                None => return Ok(None),
-                Some(row) => rows.push(row)?,
-            }
+            rows = with_ending(rows, self.row_of(term, table, place, id, asking)?)?;
         }
-        Ok(Some(rows))
+        Ok(rows)
     }
 
     /// What the load of an each ends with, by the id at this place, unless it waits.
@@ -243,10 +307,12 @@ impl Knowledge<'_, '_> {
         table: &Text,
         place: usize,
         id: &Value,
+        asking: &mut Asking<'_>,
     ) -> Result<Option<Ending<'t>>, AllocError>
-        ensures { IfOk result (MayBeItem (known_of self.now) term.now table.now place id.now) }
+        ensures row { IfOk result (MayBeItem (known_of self.now) term.now table.now place id.now) }
+        ensures loads { OnOk result (asking.new.loads ≡ asking.old.loads + target_loads (value_target table.now (view id.now))) }
     {
-        match self.answer_of_id(table, id)? {
+        match self.answer_of_id(table, id, asking)? {
             None => Ok(None),
             Some(Answer::Value(row)) => Ok(Some(Ok(row))),
             Some(Answer::Fault(fault)) => {
@@ -262,8 +328,9 @@ impl Knowledge<'_, '_> {
         term: &'t Term,
         ending: Option<Ending<'t>>,
     ) -> Result<Result<AnswerValue, Option<Ending<'t>>>, AllocError>
-        ensures { (t q : Tree) → IsOf t term.now → IsOver (known_of self.now) t q → MayEndWith (known_of self.now) q ending.entry
+        ensures ends { (t q : Tree) → IsOf t term.now → IsOver (known_of self.now) t q → MayEndWith (known_of self.now) q ending.entry
             → IfOk result (EndsInside (known_of self.now) t q) }
+        ensures value { IfOk result (λ inside. value_in inside ≡ value_of ending.entry) }
     {
         match ending {
             None => Ok(Err(None)),
@@ -292,13 +359,16 @@ impl Knowledge<'_, '_> {
         &self,
         term: &'t Term,
         part: Option<Ending<'t>>,
-        field: &Text,
+        field: &'t Text,
         table: &Text,
+        asking: &mut Asking<'t>,
     ) -> Result<Option<Ending<'t>>, AllocError>
-        ensures { (t q : Tree) → IsOf t term.now → t ≡ follow q field.now table.now → MayEndWith (known_of self.now) q part.entry → IfOk result (MayEndWith (known_of self.now) t) }
+        ensures ends { (t q : Tree) → IsOf t term.now → t ≡ follow q field.now table.now → MayEndWith (known_of self.now) q part.entry → IfOk result (MayEndWith (known_of self.now) t) }
+        ensures loads { OnOk result (asking.new.loads ≡ asking.old.loads
+            + loads_of_value (value_of part.entry) (λ d. target_loads (target_in table.now (picked field.now (answer.Value d))))) }
     {
         match self.inside(term, part)? {
-            Ok(value) => self.follow_of(term, value, field, table),
+            Ok(value) => self.follow_of(term, value, field, table, asking),
             Err(ending) => Ok(ending),
         }
     }
@@ -308,13 +378,16 @@ impl Knowledge<'_, '_> {
         &self,
         term: &'t Term,
         part: Option<Ending<'t>>,
-        field: &Text,
+        field: &'t Text,
         table: &Text,
+        asking: &mut Asking<'t>,
     ) -> Result<Option<Ending<'t>>, AllocError>
-        ensures { (t q : Tree) → IsOf t term.now → t ≡ each q field.now table.now → MayEndWith (known_of self.now) q part.entry → IfOk result (MayEndWith (known_of self.now) t) }
+        ensures ends { (t q : Tree) → IsOf t term.now → t ≡ each q field.now table.now → MayEndWith (known_of self.now) q part.entry → IfOk result (MayEndWith (known_of self.now) t) }
+        ensures loads { OnOk result (asking.new.loads ≡ asking.old.loads
+            + loads_of_value (value_of part.entry) (λ d. targets_loads (targets_in table.now (picked field.now (answer.Value d))))) }
     {
         match self.inside(term, part)? {
-            Ok(value) => self.each_of(term, value, field, table),
+            Ok(value) => self.each_of(term, value, field, table, asking),
             Err(ending) => Ok(ending),
         }
     }
@@ -348,24 +421,30 @@ impl Knowledge<'_, '_> {
         &self,
         term: &'t Term,
         item: Option<&AnswerValue>,
+        asking: &mut Asking<'t>,
     ) -> Result<Option<Ending<'t>>, AllocError>
-        ensures { IfOk result (MayEndWith (known_of self.now) (at_item (option_copied item.entry) (term_view term.now))) }
+        ensures ends { IfOk result (MayEndWith (known_of self.now) (at_item (option_copied item.entry) (term_view term.now))) }
+        ensures loads { OnOk result (asking.new.loads ≡ asking.old.loads + loads_at (known_of self.now) (option_copied item.entry) (term_view term.now)) }
     {
         match term {
             Term::Value(value) => Ok(Some(Ok(AnswerValue::row(value.try_copy()?)))),
-            Term::Load(key) => self.seek_load(term, key),
+            Term::Load(key) => self.seek_load(term, key, asking),
             Term::Item => self.seek_item(term, item),
-            Term::Pick { part, field } => self.seek_pick(term, self.seek(part, item)?, field),
+            Term::Pick { part, field } => {
+                self.seek_pick(term, self.seek(part, item, asking)?, field)
+            }
             Term::Follow { part, field, table } => {
-                self.seek_follow(term, self.seek(part, item)?, field, table)
+                self.seek_follow(term, self.seek(part, item, asking)?, field, table, asking)
             }
             Term::Each { part, field, table } => {
-                self.seek_each(term, self.seek(part, item)?, field, table)
+                self.seek_each(term, self.seek(part, item, asking)?, field, table, asking)
             }
-            Term::Over { part, body } => self.seek_over(term, self.seek(part, item)?, body),
-            Term::All(parts) => self.seek_all(term, None, parts.as_slice(), item),
+            Term::Over { part, body } => {
+                self.seek_over(term, self.seek(part, item, asking)?, body, asking)
+            }
+            Term::All(parts) => self.seek_all(term, None, parts.as_slice(), item, asking),
             Term::Object { names, parts } => {
-                self.seek_all(term, Some(names), parts.as_slice(), item)
+                self.seek_all(term, Some(names), parts.as_slice(), item, asking)
             }
         }
     }
@@ -378,12 +457,14 @@ impl Knowledge<'_, '_> {
         names: Option<&Names>,
         parts: &'t [Term],
         item: Option<&AnswerValue>,
+        asking: &mut Asking<'t>,
     ) -> Result<Option<Ending<'t>>, AllocError>
-        ensures { (t : Tree) → IsOf t term.now
+        ensures ends { (t : Tree) → IsOf t term.now
             → IsTogether (known_of self.now) t (joint_by names.entry) 0 (map (λ x. at_item (option_copied item.entry) (term_view x)) parts.now)
             → IfOk result (MayEndWith (known_of self.now) t) }
+        ensures loads { OnOk result (asking.new.loads ≡ asking.old.loads + all_loads_at (known_of self.now) (option_copied item.entry) (terms_view parts.now)) }
     {
-        let endings = self.endings_of(parts, item)?;
+        let endings = self.endings_of(parts, item, asking)?;
         self.together(term, 0, names, endings)
     }
 
@@ -393,20 +474,19 @@ impl Knowledge<'_, '_> {
         &self,
         terms: &'t [Term],
         item: Option<&AnswerValue>,
+        asking: &mut Asking<'t>,
     ) -> Result<Option<Vec<Ending<'t>>>, AllocError>
         ensures endings { IfOk result (λ o. IfSome o (λ endings. AllZip (EndsWith (known_of self.now))
             (map (λ x. at_item (option_copied item.entry) (term_view x)) terms.now) endings.items)) }
         ensures waits { IfOk result (λ o. IfNone o
             (answers (known_of self.now) (trees_of (map (λ x. at_item (option_copied item.entry) (term_view x)) terms.now)) ≡ None)) }
+        ensures loads { OnOk result (asking.new.loads ≡ asking.old.loads + all_loads_at (known_of self.now) (option_copied item.entry) (terms_view terms.now)) }
     {
-        let mut endings = Vec::with_capacity(self.alloc, terms.len())?;
+        let mut endings = Some(Vec::with_capacity(self.alloc, terms.len())?);
         for term in terms {
-            match self.seek(term, item)? {
-                None => return Ok(None),
-                Some(ending) => endings.push(ending)?,
-            }
+            endings = with_ending(endings, self.seek(term, item, asking)?)?;
         }
-        Ok(Some(endings))
+        Ok(endings)
     }
 
     /// What an over ends with whose part ends so.
@@ -416,11 +496,14 @@ impl Knowledge<'_, '_> {
         term: &'t Term,
         part: Option<Ending<'t>>,
         body: &'t Term,
+        asking: &mut Asking<'t>,
     ) -> Result<Option<Ending<'t>>, AllocError>
-        ensures { (t q : Tree) → IsOf t term.now → t ≡ over q (term_view body.now) → MayEndWith (known_of self.now) q part.entry → IfOk result (MayEndWith (known_of self.now) t) }
+        ensures ends { (t q : Tree) → IsOf t term.now → t ≡ over q (term_view body.now) → MayEndWith (known_of self.now) q part.entry → IfOk result (MayEndWith (known_of self.now) t) }
+        ensures loads { OnOk result (asking.new.loads ≡ asking.old.loads
+            + loads_of_value (value_of part.entry) (λ d. copies_load (λ e. loads_at (known_of self.now) (Some e) (term_view body.now)) (listed (answer.Value d)))) }
     {
         match self.inside(term, part)? {
-            Ok(value) => self.over_of(term, value, body),
+            Ok(value) => self.over_of(term, value, body, asking),
             Err(ending) => Ok(ending),
         }
     }
@@ -432,15 +515,18 @@ impl Knowledge<'_, '_> {
         term: &'t Term,
         value: AnswerValue,
         body: &'t Term,
+        asking: &mut Asking<'t>,
     ) -> Result<Option<Ending<'t>>, AllocError>
-        ensures { (t q : Tree) → answer (known_of self.now) q ≡ Some (answer.Value value) → IsOf t term.now → t ≡ over q (term_view body.now)
+        ensures ends { (t q : Tree) → answer (known_of self.now) q ≡ Some (answer.Value value) → IsOf t term.now → t ≡ over q (term_view body.now)
             → IfOk result (MayEndWith (known_of self.now) t) }
+        ensures loads { OnOk result (asking.new.loads ≡ asking.old.loads
+            + copies_load (λ e. loads_at (known_of self.now) (Some e) (term_view body.now)) (listed (answer.Value value))) }
     {
         let whole = AnswerValue::row(value.to_json(self.alloc)?);
         match self.items(value)? {
             Err(fault) => Ok(Some(Err(Origin::own(self.alloc, term, fault, Met::Whole(whole))))),
             Ok(items) => {
-                let endings = self.endings_over(body, items.as_slice())?;
+                let endings = self.endings_over(body, items.as_slice(), asking)?;
                 self.together(term, 1, None, endings)
             }
         }
@@ -452,19 +538,20 @@ impl Knowledge<'_, '_> {
         &self,
         body: &'t Term,
         items: &[AnswerValue],
+        asking: &mut Asking<'t>,
     ) -> Result<Option<Vec<Ending<'t>>>, AllocError>
         ensures endings { IfOk result (λ o. IfSome o (λ endings. AllZip (EndsWith (known_of self.now))
             (map (λ d. with_item d (term_view body.now)) items.now) endings.items)) }
         ensures waits { IfOk result (λ o. IfNone o
             (answers (known_of self.now) (trees_of (map (λ d. with_item d (term_view body.now)) items.now)) ≡ None)) }
+        ensures loads { OnOk result (asking.new.loads ≡ asking.old.loads + copy_loads (λ e. loads_at (known_of self.now) (Some e) (term_view body.now)) (items_of items.now)) }
     {
-        let mut endings = Vec::with_capacity(self.alloc, items.len())?;
-        for item in items {
-            match self.seek(body, Some(item))? {
-                None => return Ok(None),
-                Some(ending) => endings.push(ending)?,
-            }
+        let mut endings = Some(Vec::with_capacity(self.alloc, items.len())?);
+        for (place, item) in items.iter().enumerate() {
+            asking.enter(place)?;
+            endings = with_ending(endings, self.seek(body, Some(item), asking)?)?;
+            asking.leave();
         }
-        Ok(Some(endings))
+        Ok(endings)
     }
 }

@@ -1,32 +1,37 @@
-use Rattle.std.proofs.Common.{◌∙◌, subst, arith}
+use Rattle.std.proofs.Common.{subst, refl, arith}
+use Rattle.std.specs.Prelude.{IfSome}
 use Rattle.std.proofs.lemmas.List.{take_all}
+use Rattle.serde_json.specs.View.{items_view, view}
+use Rattle.dl_terms.specs.TermAnswers.{item_targets, value_target}
 use Rattle.dl_picture.specs.Asking.{known_of}
-use Rattle.dl_picture.specs.Seeking.{AreItems, id_answer, MayBeItem}
-use Rattle.dl_picture.proofs.FaultOrigins.{ids_collected, items_push, waits_at}
+use Rattle.dl_picture.specs.Seeking.{AreItems}
+use Rattle.dl_picture.specs.TermLoads.{each_loads, target_loads}
+use Rattle.dl_picture.proofs.FaultOrigins.{items_add}
+use Rattle.dl_picture.proofs.PartAnswers.{loads_done, loads_next}
 use Rattle.dl_picture.proofs.knowledge.Knowledge.rows_of.Goals as goal
 
 pub loop-place-preserved : goal.loop-place-preserved
 loop-place-preserved c =
-    let known = known_of c.args.self.now in
-    let term = c.args.term.now in
-    let table = c.args.table.now in
-    let i = c.loop-place.place in
-    let x = c.index-ids-place.result in
-    items_push known term table c.args.ids.now i x c.loop-place-test.true c.index-ids-place.is c.loop-place.rows.items c.push.new.self.items c.in-Some.row
-    c.loop-place.invariant (subst (MayBeItem known term table i x) c.in-Some.is c.in_ok-row_of.ensures) c.in_ok-push-in-Some.ensures.items
-
-pub returns-in-None-clause-waits : goal.returns-in-None-clause-waits
-returns-in-None-clause-waits c =
-    let known = known_of c.args.self.now in
     let table = c.args.table.now in
     let ids = c.args.ids.now in
     let i = c.loop-place.place in
     let x = c.index-ids-place.result in
-    ids_collected known table ids
-    ∙ waits_at (id_answer known table) ids i x c.loop-place-test.true c.index-ids-place.is
-    (subst (MayBeItem known c.args.term.now table i x) c.in-None.is c.in_ok-row_of.ensures)
+    let h = c.loop-place.invariant in
+    let next = items_add (known_of c.args.self.now) c.args.term.now table ids i x c.loop-place-test.true c.index-ids-place.is c.loop-place.rows c.in_ok-row_of.field-0
+    c.in_ok-rows.rows h.rows h.waits c.in_ok-row_of.ensures.row c.in_ok-rows.ensures in
+    record {
+      rows = next.0;
+      waits = next.1;
+      loads = loads_next ids i x c.loop-place-test.true c.index-ids-place.is (λ vs. each_loads (item_targets table (items_view vs)))
+          (target_loads (value_target table (view x))) (λ rest. refl) c.loop-place.asking.loads _ _ h.loads c.in_ok-row_of.ensures.loads;
+    }
 
 pub returns-clause-rows : goal.returns-clause-rows
 returns-clause-rows c =
-    subst (λ l. AreItems (known_of c.args.self.now) c.args.term.now c.args.table.now 0 l c.loop-place.rows.items)
-    (take_all c.loop-place.place c.args.ids.now (omega (arith, c.loop-place-test.false))) c.loop-place.invariant
+    subst (λ l. IfSome c.loop-place.rows (λ rows. AreItems (known_of c.args.self.now) c.args.term.now c.args.table.now 0 l rows.items))
+    (take_all c.loop-place.place c.args.ids.now (omega (arith, c.loop-place-test.false))) c.loop-place.invariant.rows
+
+pub returns-clause-loads : goal.returns-clause-loads
+returns-clause-loads c =
+    loads_done c.args.ids.now c.loop-place.place (omega (arith, c.loop-place-test.false)) (λ vs. each_loads (item_targets c.args.table.now (items_view vs))) refl
+    c.loop-place.asking.loads _ c.loop-place.invariant.loads

@@ -7,14 +7,14 @@ use Rattle.dl_picture.specs.Seeking.{AreItems, Gathers}
 use Rattle.dl_picture.proofs.FaultOrigins.{fails_first, ids_values}
 use Rattle.dl_picture.proofs.knowledge.Knowledge.seek_ids.Goals as goal
 
-pub returns-in-None : goal.returns-in-None
-returns-in-None c =
+pub returns-in-None-clause-together : goal.returns-in-None-clause-together
+returns-in-None-clause-together c =
     let known = known_of c.args.self.now in
     ap (option_map gathered)
     (subst (λ o. IfNone o (target_answers known (item_targets c.args.table.now (items_view c.args.ids.now)) ≡ None)) c.in-None.is c.in_ok-rows_of.ensures.waits)
 
-pub returns-in-Ok : goal.returns-in-Ok
-returns-in-Ok c =
+pub returns-in-Ok-clause-together : goal.returns-in-Ok-clause-together
+returns-in-Ok-clause-together c =
     let known = known_of c.args.self.now in
     let term = c.args.term.now in
     let table = c.args.table.now in
@@ -24,8 +24,8 @@ returns-in-Ok c =
     let g = subst (Gathers listing es) c.in-Ok.is c.in_ok-values-in-Some.ensures in
     ids_values known term table ids es g.0 c.in-Ok.values are g.1 g.2
 
-pub returns-in-Err : goal.returns-in-Err
-returns-in-Err c =
+pub returns-in-Err-clause-together : goal.returns-in-Err-clause-together
+returns-in-Err-clause-together c =
     let known = known_of c.args.self.now in
     let term = c.args.term.now in
     let table = c.args.table.now in
