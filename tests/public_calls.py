@@ -7,7 +7,7 @@ from shared import TOP
 
 # The libraries between a key and the program, lowest first.
 CRATES = [
-    *("dl_values", "dl_desk", "dl_source", "dl_terms", "dl_cells", "dl_history", "dl_loader"),
+    *("dl_values", "dl_desk", "dl_source", "dl_terms", "dl_cells", "dl_history", "dl_gather", "dl_loader"),
     *("dl_workers", "dl_haxl", "dl_scope", "dl_documents", "dl_replay", "dl_migration", "dl_picture", "dl_plans", "dl_server"),
 ]
 

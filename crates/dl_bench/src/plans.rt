@@ -6,7 +6,7 @@ use crate::keys::limits;
 use crate::scene::Scene;
 use crate::terms::{Terms, term_of};
 use anyhow::Result;
-use dl_scope::{Plan, Setup, Step, serve};
+use dl_scope::{Plan, Policy, Setup, Step, serve};
 use dl_workers::NoGate;
 use std::alloc::{AllocError, Global};
 use std::sync::Wait;
@@ -31,6 +31,7 @@ pub(crate) fn served<R: Threads + Wait + Sync>(
         limits,
         tables: None,
         workers,
+        policy: Policy::Eager,
         queue: QUEUE,
         max_answer: None,
     };

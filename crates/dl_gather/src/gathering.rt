@@ -16,6 +16,16 @@ use std::marker::Model;
 /// whether it let other tasks go on. If so, wake those that sleep and whose [`next`](Gathering::next) isn't
 /// [`Sleep`](Next::Sleep). Then do what `next` says for your own. No call allocates, and but for those that let others
 /// go on, each takes a few dozen instructions.
+///
+/// # Examples
+/// What a caller of a loader does once it has made its loads, in `crates/dl_loader/src/loader/part.rt`:
+///
+/// ```rust
+/// let mut rule = self.turns.lock(rt);
+/// let lets_go = rule.arrive(pass.caller());
+/// self.turns.note(&rule, &self.waiters, lets_go);
+/// self.sleep(rt, pass, rule)
+/// ```
 #[derive(Drop)]
 pub struct Gathering {
     tasks: Tasks,

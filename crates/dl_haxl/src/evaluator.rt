@@ -101,8 +101,8 @@ impl<'l, L: LoaderName, O: Outlet<L>> Evaluator<'l, L, O> {
         unreachable!()
     }
 
-    /// One round: loads the wanted keys, dispatches, gives out the jobs, and reads the outcome of each load. You get a
-    /// ticket for each key, and each of them shows its outcome.
+    /// One round: loads the wanted keys, dispatches once nobody who takes part runs, gives out the jobs, and reads the
+    /// outcome of each load. You get a ticket for each key, and each of them shows its outcome.
     ///
     /// # Errors
     /// Those of [`evaluate`](Evaluator::evaluate). If the outlet fails to end a job, the loader is stopped.
@@ -127,7 +127,7 @@ impl<'l, L: LoaderName, O: Outlet<L>> Evaluator<'l, L, O> {
         ensures grows { OnErr result (Grows pass.old.trace pass.new.trace) }
     {
         let mut tickets = self.loader.load_many(rt, self.alloc, pass, wanted)?;
-        let jobs = self.loader.dispatch(rt, self.alloc, pass)?;
+        let jobs = self.loader.gather(rt, self.alloc, pass)?;
         O::give_out(self, rt, seat, pass, jobs)?;
         read_each(rt, self.loader, pass, tickets.as_mut_slice())?;
         // By its clause, the greatest place fits a `u32`.

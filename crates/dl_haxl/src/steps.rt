@@ -51,7 +51,8 @@ fn add(
 /// would have done, stop the loader then.
 ///
 /// # Examples
-/// The thread of a plan takes its steps, and stops the loader if one fails, in `crates/dl_scope`:
+/// The thread of a plan takes its steps. If one fails, it stops the loader, and else it takes part no more, in
+/// `crates/dl_scope`:
 ///
 /// ```rust
 /// let given = take_steps(
@@ -67,6 +68,8 @@ fn add(
 /// );
 /// if given.is_err() {
 ///     loader.stop(rt);
+/// } else {
+///     loader.leave(rt, &pass);
 /// }
 /// ```
 pub fn take_steps<L: LoaderName, R: Wait>(

@@ -14,6 +14,7 @@ pub mod TicketsStay
 mod AccountLemmas
 mod CloseLemmas
 mod Sources
+pub mod Naming
 pub mod ThreadSafety
 pub mod Closures
 pub mod JobEnds

@@ -17,9 +17,11 @@ use Rattle.dl_loader.specs.contracts.book.Book as Book
 use Rattle.dl_loader.specs.contracts.book.Book.TheInside as book
 use Rattle.dl_loader.specs.contracts.loader.Loader as Loader
 use Rattle.dl_loader.specs.contracts.loader.Loader.TheInside as loader
+use Rattle.dl_loader.specs.contracts.turns.Turns as Turns
 use Rattle.dl_loader.specs.contracts.waiter.Waiter as Waiter
 use Rattle.dl_desk.proofs.desk.Desk.TheSendSync as desk
 use Rattle.dl_history.proofs.flags.KnownFlags.TheSendSync as flags
+use Rattle.dl_loader.proofs.turns.Turns.TheSendSync as turns
 use Rattle.dl_loader.proofs.waiter.Waiter.TheSendSync as waiter
 use Rattle.dl_history.proofs.ThreadSafety.{Journal-send, CellRows-sync, Ending-send, Ending-sync, Event-send, Event-sync}
 use Rattle.dl_cells.proofs.row.CellRow.TheSendSync as row
@@ -59,7 +61,10 @@ module _ (T : RattleType) (n : name.Ghosts T.Denot) (l : ledger.Ghosts T.Denot) 
       as_row_sync (CellRows.the_field T n l) (CellRows-sync T n l),
       (
         as_row_sync (Mutex.the_field (Book.the_row T n l)) lock_sync,
-        (as_row_sync (Vec.the_field Waiter.the_row Heap.the_row ghosts) (Vec-sync _ waiter.the_sync), tt),
+        (
+          as_row_sync (Vec.the_field Waiter.the_row Heap.the_row ghosts) (Vec-sync _ waiter.the_sync),
+          (as_row_sync Turns.the_field turns.the_field_sync, tt),
+        ),
       ),
     ),
   )

@@ -23,7 +23,8 @@ use std::alloc::Global;
 
 /// Makes one event of a pass on the book. You get the reply, and how many cells refused the outcome that the event gave
 /// them. This is what each event call does under the lock. If the event ended a batch, it wakes those that wait for a
-/// ticket, and they go on once you give the book back.
+/// ticket, and they go on once you give the book back. It wakes no callers that take part, by [`Loader::enter`], and
+/// sleep until their turn, and it doesn't count the batches that are out. So use it on loaders that nobody entered.
 ///
 /// # Errors
 /// The first cause of [`CallFault`] that applies, with the ask. The book is then as it was, and so are the calls, reads

@@ -26,10 +26,12 @@ mod loader;
 mod opening;
 mod reply;
 mod serial_loader;
+mod turns;
 mod waiter;
 
 pub use ask::{Ask, GiveUp};
 pub use book::Book;
+pub use dl_gather::Policy;
 pub use dl_history::{
     Batches, Call, CallFault, CloseFault, EndedBatch, Ending, Entry, EntryKind, Event, Events,
     History, Jobs, LoaderName, Pass, Replies, Reply, Shared, StartFault, Stopped, Ticket,

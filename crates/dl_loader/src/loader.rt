@@ -7,10 +7,12 @@ ghost use Rattle.dl_loader.specs.Opening.{Names};
 ghost use Rattle.dl_history.specs.Pass.{GaveTicket, new_traces, with_saw};
 
 pub(crate) mod close;
+mod part;
 mod unshown;
 
 use crate::book::Book;
 use crate::opening::Opening;
+use crate::turns::Turns;
 use crate::waiter::Waiter;
 use dl_history::{CellRows, LoaderName, Pass, StartFault, Stopped, Ticket};
 use dl_source::Source;
@@ -45,6 +47,7 @@ pub struct Loader<L: LoaderName> {
     pub(crate) book: Mutex<Book<L>>,
     // By the number of the caller.
     pub(crate) waiters: Vec<Waiter>,
+    pub(crate) turns: Turns,
 }
 
 impl<L: LoaderName> Drop for Loader<L> {
@@ -54,10 +57,12 @@ impl<L: LoaderName> Drop for Loader<L> {
             rows,
             book,
             waiters,
+            turns,
         } = self;
         drop(rows);
         drop(book);
         drop(waiters);
+        drop(turns);
     }
 }
 
@@ -92,6 +97,7 @@ impl<L: LoaderName> Loader<L> {
             limits,
             tables,
             callers,
+            policy,
             log,
             outcomes,
             flags,
@@ -102,12 +108,14 @@ impl<L: LoaderName> Loader<L> {
         let passes = deal(alloc, callers, all)?;
         let mut waiters = Vec::new(alloc);
         waiters.resize_with(callers as usize, Waiter::new)?;
+        let turns = Turns::new(alloc, policy, callers)?;
         let book = Book::new(alloc, hashing, limits, tables, calls);
         let loader = Loader {
             callers,
             rows: CellRows::new(limits, log, outcomes, flags),
             book: Mutex::new(book),
             waiters,
+            turns,
         };
         Ok((loader, passes))
     }
@@ -128,10 +136,11 @@ impl<L: LoaderName> Loader<L> {
         for waiter in &self.waiters {
             waiter.wake();
         }
+        self.end_turns(rt);
     }
 
     /// Wakes those that wait for a cell which shows its outcome: a batch has ended. If someone has the book, they go on
-    /// once it is back.
+    /// once it is back. It asks no rule, so those that take part and sleep until their turn sleep on: see `note_end`.
     pub(crate) fn wake(&self) {
         let cells = self.rows.limits().max_cells();
         for waiter in &self.waiters {
@@ -140,8 +149,9 @@ impl<L: LoaderName> Loader<L> {
     }
 
     /// Waits until the ticket shows its outcome, and adds that to the entries of the pass, unless it is there already.
-    /// The ticket must be one that this pass got. If it shows its outcome at once, the call takes no lock. If nobody
-    /// ends its batch and nobody stops the loader, the call waits for ever.
+    /// The ticket must be one that this pass got. If it shows its outcome at once, and nobody sends, the call takes no
+    /// lock. A caller that takes part waits also until nobody sends. If nobody ends its batch and nobody stops the
+    /// loader, the call waits for ever.
     ///
     /// # Errors
     /// `Stopped` if the loader is stopped and the ticket shows nothing yet. The pass then knows that the loader is
@@ -164,10 +174,35 @@ impl<L: LoaderName> Loader<L> {
         ensures none { OnErr result (ticket.new.known ≡ None) }
         ensures stopped { OnErr result (pass.new.flags.stopped ≡ true) }
     {
+        if ticket.look().is_none() || self.turns.has_senders() {
+            self.wait_in_turn(rt, pass, ticket)?;
+        }
+        pass.saw(ticket);
+        Ok(())
+    }
+
+    /// Waits until the ticket shows its outcome and, if the caller takes part, it is its turn.
+    fn wait_in_turn(
+        &self,
+        rt: &impl Wait,
+        pass: &mut Pass<L>,
+        ticket: &mut Ticket<'_, L>,
+    ) -> Result<(), Stopped>
+        ensures number { ticket.new.number ≡ ticket.old.number }
+        ensures reply { ticket.new.reply ≡ ticket.old.reply }
+        ensures kept { IfSome ticket.old.known (λ ending. ticket.new.known ≡ Some ending) }
+        ensures shown { OnOk result (IsSome ticket.new.known) }
+        ensures none { OnErr result (ticket.new.known ≡ None) }
+        ensures trace { pass.new.trace ≡ pass.old.trace }
+        ensures stopped { OnErr result (pass.new.flags.stopped ≡ true) }
+    {
+        let was_let_out = self.take_turn(rt, pass, ticket);
         if ticket.look().is_none() {
             self.wait_for(rt, pass, ticket)?;
         }
-        pass.saw(ticket);
+        if was_let_out {
+            self.enter(rt, pass);
+        }
         Ok(())
     }
 

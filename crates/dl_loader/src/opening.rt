@@ -7,6 +7,7 @@ ghost use Rattle.dl_loader.specs.Opening.{AreCallers, RefusedAs};
 
 use dl_cells::CellRow;
 use dl_desk::{Limits, TableLimits};
+use dl_gather::Policy;
 use dl_history::{Ending, Event, Flags, StartFault};
 use dl_source::Source;
 use std::alloc::Global;
@@ -40,6 +41,7 @@ pub struct Opening<'s, S: Source> {
     // If each batch is of one table.
     pub(crate) tables: Option<TableLimits>,
     pub(crate) callers: u32,
+    pub(crate) policy: Policy,
     pub(crate) log: CellRow<Event>,
     pub(crate) outcomes: CellRow<Ending>,
     pub(crate) flags: Flags,
@@ -112,6 +114,15 @@ impl<'s, S: Source> Opening<'s, S> {
         Opening::of(alloc, hashing, source, limits, Some(tables), callers)
     }
 
+    /// The same, but callers that take part send by this policy. Without this call it is [`Policy::Eager`].
+    pub fn sending_by(self, policy: Policy) -> Opening<'s, S>
+        ensures { result ≡ self.entry }
+    {
+        let mut opening = self;
+        opening.policy = policy;
+        opening
+    }
+
     fn of(
         alloc: Global,
         hashing: RandomState,
@@ -133,6 +144,7 @@ impl<'s, S: Source> Opening<'s, S> {
             limits,
             tables,
             callers,
+            policy: Policy::Eager,
             log,
             outcomes,
             flags: Flags::new(),

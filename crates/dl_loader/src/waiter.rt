@@ -1,4 +1,4 @@
-//! Where callers wait for outcomes.
+//! Where callers wait for outcomes, and for their turn.
 
 ghost use Rattle.std.specs.Prelude.{◌<◌, ◌≤◌};
 ghost use Rattle.dl_cells.specs.Cells.{row_len};
@@ -6,26 +6,29 @@ ghost use Rattle.dl_cells.specs.Cells.{row_len};
 use crate::book::Book;
 use dl_cells::CellRow;
 use dl_desk::Ending;
+use dl_gather::Gathering;
 use dl_history::LoaderName;
-use std::sync::atomic::{AtomicU32, Ordering};
+use std::sync::atomic::{AtomicBool, AtomicU32, Ordering};
 use std::sync::{Condvar, MutexGuard, Wait};
 
 /// Where one caller waits for the outcome of a cell. So the end of a batch wakes only those callers that wait for its
 /// cells. No contract says who wakes: see `Loader::wake`.
 #[derive(Drop)]
 pub(crate) struct Waiter {
-    // The number of the cell that the caller waits for, plus 1; and 0 if it waits for none. Its caller sets it while it
-    // has the book, so whoever has had the book since then sees it.
-    awaited: AtomicU32,
+    // Its caller sets it while it has the book, so whoever has had the book since then sees it.
+    awaited: Awaited,
     woken: Condvar,
+    /// Where the caller sleeps until it is its turn.
+    pub(crate) turn: Sleeper,
 }
 
 impl Waiter {
     /// Of a caller that waits for nothing.
     pub(crate) fn new() -> Waiter {
         Waiter {
-            awaited: AtomicU32::new(0),
+            awaited: Awaited::none(),
             woken: Condvar::new(),
+            turn: Sleeper::new(),
         }
     }
 
@@ -36,9 +39,9 @@ impl Waiter {
         cell: u32,
         book: MutexGuard<'b, Book<L>>,
     ) -> MutexGuard<'b, Book<L>> {
-        self.awaited.store(cell.saturating_add(1), Ordering::SeqCst);
+        self.awaited.set(cell);
         let book = self.woken.wait(rt, book);
-        self.awaited.store(0, Ordering::SeqCst);
+        self.awaited.clear();
         book
     }
 
@@ -51,11 +54,100 @@ impl Waiter {
     pub(crate) fn wake_if_shown(&self, outcomes: &CellRow<Ending>, cells: u32)
         requires { cells ≤ row_len outcomes.now }
     {
-        if let Some(cell) = self.awaited.load(Ordering::SeqCst).checked_sub(1)
-            && cell < cells
-            && shows(outcomes, cell)
-        {
+        if self.awaited.shows(outcomes, cells) {
             self.wake();
+        }
+    }
+}
+
+/// Where one caller sleeps until it is its turn. It is woken only if it sleeps.
+#[derive(Drop)]
+pub(crate) struct Sleeper {
+    // Its caller sets these while it has the rule, so whoever has had the rule since then sees them.
+    sleeps: AtomicBool,
+    awaited: Awaited,
+    woken: Condvar,
+}
+
+impl Sleeper {
+    /// Of a caller that doesn't sleep.
+    fn new() -> Sleeper {
+        Sleeper {
+            sleeps: AtomicBool::new(false),
+            awaited: Awaited::none(),
+            woken: Condvar::new(),
+        }
+    }
+
+    /// Gives the rule back, sleeps until someone wakes the caller, and takes the rule again.
+    pub(crate) fn sleep<'r>(
+        &self,
+        rt: &impl Wait,
+        rule: MutexGuard<'r, Gathering>,
+    ) -> MutexGuard<'r, Gathering> {
+        self.sleeps.store(true, Ordering::SeqCst);
+        let rule = self.woken.wait(rt, rule);
+        self.sleeps.store(false, Ordering::SeqCst);
+        rule
+    }
+
+    /// The same, while the caller waits for a cell.
+    pub(crate) fn sleep_for<'r>(
+        &self,
+        rt: &impl Wait,
+        cell: u32,
+        rule: MutexGuard<'r, Gathering>,
+    ) -> MutexGuard<'r, Gathering> {
+        self.awaited.set(cell);
+        let rule = self.sleep(rt, rule);
+        self.awaited.clear();
+        rule
+    }
+
+    /// Wakes the caller if it sleeps.
+    pub(crate) fn wake(&self) {
+        if self.sleeps.load(Ordering::SeqCst) {
+            self.woken.notify_all();
+        }
+    }
+
+    /// Whether the caller sleeps while it waits for a cell, and the cell shows an outcome.
+    pub(crate) fn awaits_shown(&self, outcomes: &CellRow<Ending>, cells: u32) -> bool
+        requires { cells ≤ row_len outcomes.now }
+    {
+        self.awaited.shows(outcomes, cells)
+    }
+}
+
+/// The cell for which a caller waits, if it waits for one.
+#[derive(Drop)]
+struct Awaited {
+    // The number of the cell plus 1, and 0 if there is none.
+    number: AtomicU32,
+}
+
+impl Awaited {
+    fn none() -> Awaited {
+        Awaited {
+            number: AtomicU32::new(0),
+        }
+    }
+
+    fn set(&self, cell: u32) {
+        self.number.store(cell.saturating_add(1), Ordering::SeqCst);
+    }
+
+    fn clear(&self) {
+        self.number.store(0, Ordering::SeqCst);
+    }
+
+    /// Whether there is one, and it shows an outcome.
+    fn shows(&self, outcomes: &CellRow<Ending>, cells: u32) -> bool
+        requires { cells ≤ row_len outcomes.now }
+    {
+        match self.number.load(Ordering::SeqCst).checked_sub(1) {
+            Some(cell) => cell < cells && shows(outcomes, cell),
+            None => false,
         }
     }
 }

@@ -11,6 +11,7 @@ use Rattle.dl_documents.specs.declared.input.Input.TheVariants as input
 use Rattle.dl_documents.specs.declared.input.PlanFile.{PlanFile}
 use Rattle.dl_desk.specs.Service.{Service}
 use Rattle.dl_source.specs.Answer.{answer_of}
+use Rattle.dl_gather.specs.declared.task.Policy.TheVariants.{Eager}
 use Rattle.dl_scope.specs.Report.{Report}
 use Rattle.dl_scope.specs.Setup.{service_of}
 use Rattle.dl_scope.specs.declared.setup.Setup.{Setup}
@@ -48,12 +49,13 @@ pub record IsDocument (options : Options) (bytes : List ℕ) (i : Input) : Type 
 abbrev pub queue_places : ℕ
 queue_places = 16
 
--- how the program serves a plan file
+-- how the program serves a plan file: plans send as soon as none of them runs
 abbrev pub setup_of : Options → PlanFile → Setup
 setup_of options file = record {
   limits = file.limits;
   tables = file.table_limits;
   workers = options.workers;
+  policy = Eager;
   queue = queue_places;
   max_answer = options.max_answer;
 }

@@ -29,7 +29,7 @@ use crate::table_names::{Names, table_names};
 use crate::whole_file::write_whole;
 use dl_documents::{Input, PlanFault, PlanFile, Script, read_input, read_over_database};
 use dl_picture::{script_picture, script_trace};
-use dl_scope::{Report, ScopeFault, Setup, serve};
+use dl_scope::{Policy, Report, ScopeFault, Setup, serve};
 use dl_source::Tables;
 use dl_terms::Term;
 use dl_workers::NoGate;
@@ -341,6 +341,7 @@ pub(crate) fn served<T: Threads + Wait + Sync>(
         limits,
         tables: table_limits,
         workers: options.workers,
+        policy: Policy::Eager,
         queue: QUEUE_PLACES,
         max_answer: options.max_answer,
     };

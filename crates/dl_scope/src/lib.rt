@@ -17,6 +17,7 @@ mod setup;
 mod threads;
 
 pub use dl_haxl::StepAnswer;
+pub use dl_loader::Policy;
 pub use dl_terms::{MOST_PLANS, Plan, Step};
 pub use fault::ScopeFault;
 pub use report::Report;

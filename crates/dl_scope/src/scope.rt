@@ -21,6 +21,7 @@ use crate::fault::ScopeFault;
 use crate::report::Report;
 use crate::results::results_of;
 use crate::setup::Setup;
+use crate::threads::plans::enter_plans;
 use crate::threads::run_all;
 use crate::threads::server::{Resources, Server};
 use crate::threads::task_lists::{Tasks, deal};
@@ -42,7 +43,8 @@ pub const MOST_WORKERS: u32 = 16;
 /// Serves plans at once, over one source and by one shared loader: a thread for each plan, and as many fetch workers as
 /// the setup says. You hand in a finished list of plans, at most [`MOST_PLANS`], and get the report once all threads
 /// have ended. Plan n is caller n of the loader, and the workers are the callers after the plans. The gate hears of
-/// each step of a worker. `hashing` hashes keys, and nothing that you see depends on it.
+/// each step of a worker. `hashing` hashes keys, and nothing that you see depends on it. Plans that load keys at the
+/// same time share batches: nobody's keys are sent while a plan runs.
 ///
 /// A plan that meets a fault stops the loader, and so does a worker that can't end a batch. Then the others end too.
 ///
@@ -57,6 +59,7 @@ pub const MOST_WORKERS: u32 = 16;
 ///     limits: Limits::new(64, 1_024, 4_096)?,
 ///     tables: None,
 ///     workers: 2,
+///     policy: Policy::Eager,
 ///     queue: 16,
 ///     max_answer: None,
 /// };
@@ -113,8 +116,25 @@ fn callers_of(plans: usize, workers: u32) -> Result<u32, ScopeFault>
     Ok(plans as u32 + workers)
 }
 
-/// What opens a loader over the source, by the limits of the setup.
+/// What opens a loader over the source, by the limits and the policy of the setup.
 fn opening<'s, S: Source>(
+    alloc: Global,
+    hashing: RandomState,
+    source: &'s S,
+    setup: &Setup,
+    callers: u32,
+) -> Result<Opening<'s, S>, StartFault>
+    ensures source { IfOk result (λ o. o.source ≡ source.now) }
+    ensures rules { IfOk result (λ o. o.rules ≡ rules_by setup.now.limits setup.now.tables) }
+    ensures callers { IfOk result (λ o. o.callers ≡ callers) }
+    ensures refused { IfErr result (λ fault. AreCallers callers → fault ≡ StartFault.OutOfMemory) }
+{
+    let opening = opening_within(alloc, hashing, source, setup, callers)?;
+    Ok(opening.sending_by(setup.policy))
+}
+
+/// What opens a loader over the source, by the limits of the setup.
+fn opening_within<'s, S: Source>(
     alloc: Global,
     hashing: RandomState,
     source: &'s S,
@@ -228,6 +248,7 @@ fn serve_by<
         workers,
         own,
     } = deal(&server, passes, senders, takers, plans)?;
+    enter_plans(rt, loader, &plans);
     let runs = run_all(rt, &server, workers, plans, own)?;
     let results = match results_of(alloc, runs) {
         Ok(results) => results,

@@ -1,6 +1,7 @@
 //! How to serve plans.
 
 use dl_desk::{Limits, TableLimits};
+use dl_loader::Policy;
 
 /// How [`serve`](crate::serve) serves plans.
 #[derive(Drop)]
@@ -12,6 +13,8 @@ pub struct Setup {
     pub tables: Option<TableLimits>,
     /// How many fetch workers there are: 1 to [`MOST_WORKERS`](crate::MOST_WORKERS).
     pub workers: u32,
+    /// When plans that have made their loads send them, once no plan runs: at once, or once all batches have ended.
+    pub policy: Policy,
     /// How many jobs the queue between plans and workers holds: 1 to 1,024.
     pub queue: u32,
     /// The most bytes that the texts of a plan's answers may have, together with what its terms copy on the way: see

@@ -10,7 +10,7 @@ ghost use Rattle.dl_desk.specs.Service.{Answers};
 ghost use Rattle.dl_workers.specs.Seats.{IsSenderOf, IsTakerOf};
 ghost use Rattle.dl_scope.specs.Inside.ThreadRuns.{IsPlanRun, IsWorkerRun, SendsNothing};
 
-mod plans;
+pub(crate) mod plans;
 pub(crate) mod runs;
 pub(crate) mod server;
 pub(crate) mod task_lists;
@@ -25,7 +25,7 @@ use crate::threads::tasks::{PlanTask, WorkerTask};
 use crate::threads::workers::start_worker;
 use dl_loader::LoaderName;
 use dl_source::Source;
-use dl_workers::{Gate, JobQueue, Sender};
+use dl_workers::{Gate, Sender};
 use std::alloc::AllocError;
 use std::sync::Wait;
 use std::thread;
@@ -98,17 +98,22 @@ fn run_workers<
         return run_plans_alone(scope, rt, server, plans, own);
     };
     let Some(child) = start_worker(scope, rt, server, task) else {
-        return Err(refused(rt, server.queue, own));
+        return Err(refused(rt, server, own));
     };
     let rest = run_workers(scope, rt, server, workers, plans, own);
     with_worker(rest, child.join(rt))
 }
 
-/// Shuts the queue, since the system refused a thread.
-fn refused(rt: &impl Wait, queue: &JobQueue, mut own: Sender) -> AllocError
-    requires own { IsSenderOf queue.now own }
+/// Stops the loader and shuts the queue, since the system refused the thread of a worker.
+fn refused<L: LoaderName, S, G>(
+    rt: &impl Wait,
+    server: &Server<'_, L, S, G>,
+    mut own: Sender,
+) -> AllocError
+    requires own { IsSenderOf server.now.queue.now own }
 {
-    queue.shut(rt, &mut own);
+    server.loader.stop(rt);
+    server.queue.shut(rt, &mut own);
     AllocError
 }
 
@@ -163,6 +168,8 @@ fn run_plans<
         return Ok(Vec::new(server.resources.alloc));
     };
     let Some(child) = start_plan(scope, rt, server, task) else {
+        // Else plans that never run would hold up the others for ever.
+        server.loader.stop(rt);
         return Err(AllocError);
     };
     let rest = run_plans(scope, rt, server, plans);

@@ -7,7 +7,7 @@ mod users;
 use crate::domains::Domains;
 use crate::users::Users;
 use dl_desk::Limits;
-use dl_scope::{Plan, Report, Setup, serve};
+use dl_scope::{Plan, Policy, Report, Setup, serve};
 use dl_source::{Checked, Source};
 use dl_terms::{Answer, EvalFault};
 use dl_workers::NoGate;
@@ -44,6 +44,7 @@ fn serve_over<S: Source + Sync, R: Threads + Wait + Sync + Print>(
         limits: Limits::new(64, 1_024, 4_096)?,
         tables: None,
         workers,
+        policy: Policy::Eager,
         queue: 16,
         max_answer: None,
     };

@@ -2,7 +2,7 @@
 #![tactic(auto)]
 
 use dl_desk::{FetchKey, Limits};
-use dl_scope::{Plan, Setup, Step, serve};
+use dl_scope::{Plan, Policy, Setup, Step, serve};
 use dl_source::Tables;
 use dl_terms::Term;
 use dl_workers::NoGate;
@@ -15,6 +15,7 @@ fn main(rt: HostRuntime) -> anyhow::Result<()> {
         limits: Limits::new(64, 1_024, 4_096)?,
         tables: None,
         workers: 2,
+        policy: Policy::Eager,
         queue: 16,
         max_answer: None,
     };
@@ -27,6 +28,7 @@ fn main(rt: HostRuntime) -> anyhow::Result<()> {
             println!(rt; "{request} {:?}", given.answer)?;
         }
     }
+    println!(rt; "{} batch", report.tally().sent)?;
     Ok(())
 }
 

@@ -3,11 +3,12 @@
 //! You give it a plan file on standard input. It serves the file's plans, or lets callers of its own make calls over
 //! the file's tables, while the source and the gate yield as a seed draws it. Then it prints the report and the
 //! history: a line of JSON for each answer, event and caller. At the end it prints how many times the loader asked the
-//! source.
+//! source. By the word `gather` it makes calls of gatherings instead, a case on each line of standard input.
 #![tactic(auto)]
 
 mod callers;
 mod event_text;
+mod gathered;
 mod restless;
 mod served;
 mod sheet;
@@ -34,14 +35,25 @@ struct Command {
 }
 
 fn main(rt: HostRuntime) -> Result<()> {
-    let hashing = RandomState::new(&rt)?;
-    let command = asked(&rt)?;
-    let mut bytes = Vec::new(rt.alloc());
-    rt.reader().read_to_end(&mut bytes)?;
-    let Ok(Input::Plans(file)) = read_input(rt.alloc(), hashing, &bytes) else {
-        bail!("no plan file");
+    let words = env::args(&rt)?.collect::<Vec<_>>(rt.alloc())?;
+    let text = match words.as_slice() {
+        [_, word] if word.as_str() == "gather" => {
+            let mut cases = String::new(rt.alloc());
+            rt.reader().read_to_string(&mut cases)?;
+            gathered::gathered(rt.alloc(), &cases)?
+        }
+        words => {
+            let command = asked(words)?;
+            let mut bytes = Vec::new(rt.alloc());
+            rt.reader().read_to_end(&mut bytes)?;
+            let hashing = RandomState::new(&rt)?;
+            let Ok(Input::Plans(file)) = read_input(rt.alloc(), hashing, &bytes) else {
+                bail!("no plan file");
+            };
+            answered(&rt, hashing, file, command)?
+        }
     };
-    print!(rt; "{}", answered(&rt, hashing, file, command)?)?;
+    print!(rt; "{text}")?;
     Ok(())
 }
 
@@ -67,6 +79,7 @@ fn answered<R: AllocGlobal + Threads + Wait + Sync>(
             limits,
             tables: table_limits,
             workers: command.threads,
+            policy: dl_scope::Policy::Eager,
             queue: command.queue,
             max_answer: None,
         };
@@ -77,10 +90,9 @@ fn answered<R: AllocGlobal + Threads + Wait + Sync>(
 }
 
 /// The command that the program's words spell: a seed, a number of threads, and the capacity of a queue.
-fn asked(rt: &HostRuntime) -> Result<Command> {
-    let words = env::args(rt)?.collect::<Vec<_>>(rt.alloc())?;
-    let [_, seed, threads, queue] = words.as_slice() else {
-        bail!("SEED THREADS QUEUE");
+fn asked(words: &[String]) -> Result<Command> {
+    let [_, seed, threads, queue] = words else {
+        bail!("SEED THREADS QUEUE, or gather");
     };
     Ok(Command {
         seed: seed.as_str().parse()?,

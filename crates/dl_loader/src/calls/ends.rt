@@ -44,9 +44,10 @@ impl<L: LoaderName> Loader<L> {
         ensures back { IfErr result (λ e. e.1 ≡ fetched.entry) }
         ensures unchanged { OnErr result (pass.new.trace ≡ pass.old.trace) }
     {
+        let rule = self.turns.lock(rt);
         match self.call(rt, alloc, pass, &EndBatch::settle(&fetched)) {
             Ok((_, settled)) => {
-                self.wake();
+                self.note_end(rule);
                 Ok(settled)
             }
             Err(fault) => Err((fault, fetched)),
@@ -75,9 +76,10 @@ impl<L: LoaderName> Loader<L> {
         ensures back { IfErr result (λ e. e.1 ≡ job) }
         ensures unchanged { OnErr result (pass.new.trace ≡ pass.old.trace) }
     {
+        let rule = self.turns.lock(rt);
         match self.call(rt, alloc, pass, &EndBatch::fail(&job, give_up)) {
             Ok((_, settled)) => {
-                self.wake();
+                self.note_end(rule);
                 Ok(settled)
             }
             Err(fault) => Err((fault, job)),

@@ -11,9 +11,10 @@ use crate::event_call::{Clear, Dispatch, Prime};
 use crate::loader::Loader;
 use crate::reply::{PrimeReply, Settled};
 use dl_desk::{DeskPrime, FetchKey, Job, Outcome};
+use dl_gather::Gathering;
 use dl_history::{CallFault, LoaderName, Pass};
 use std::alloc::Global;
-use std::sync::Wait;
+use std::sync::{MutexGuard, Wait};
 
 impl<L: LoaderName> Loader<L> {
     /// Gives a key that the loader doesn't hold a new cell, which ends with the outcome at once. If the loader holds
@@ -96,6 +97,66 @@ impl<L: LoaderName> Loader<L> {
         alloc: Global,
         pass: &mut Pass<L>,
     ) -> Result<Vec<Job>, CallFault>
+        ensures made { IfOk result (λ jobs. WasMade L.service pass.old.trace call.Dispatch (reply.Sent jobs.items) pass.new.trace) }
+        ensures tickets { OnOk result (pass.new.trace.tickets ≡ pass.old.trace.tickets) }
+        ensures fault { IfErr result (WasRefused L.service pass.old.trace call.Dispatch None) }
+        ensures knows { IfErr result (KnowsStop pass.new.flags) }
+        ensures unchanged { OnErr result (pass.new.trace ≡ pass.old.trace) }
+    {
+        let rule = self.turns.lock(rt);
+        self.send(rt, alloc, pass, rule)
+    }
+
+    /// Waits until none of the callers that take part runs, and then dispatches as [`dispatch`](Loader::dispatch) does.
+    /// So callers that make their loads at the same time share batches. One of those that wait here gets the jobs of
+    /// all, and the others get none. For a caller that takes no part this is `dispatch`.
+    ///
+    /// Load again once you have waited for a ticket. Until then others may still send, and a key that you load goes out
+    /// with them.
+    ///
+    /// # Errors
+    /// As [`dispatch`](Loader::dispatch).
+    pub fn gather(
+        &self,
+        rt: &impl Wait,
+        alloc: Global,
+        pass: &mut Pass<L>,
+    ) -> Result<Vec<Job>, CallFault>
+        ensures made { IfOk result (λ jobs. WasMade L.service pass.old.trace call.Dispatch (reply.Sent jobs.items) pass.new.trace) }
+        ensures tickets { OnOk result (pass.new.trace.tickets ≡ pass.old.trace.tickets) }
+        ensures fault { IfErr result (WasRefused L.service pass.old.trace call.Dispatch None) }
+        ensures knows { IfErr result (KnowsStop pass.new.flags) }
+        ensures unchanged { OnErr result (pass.new.trace ≡ pass.old.trace) }
+    {
+        let rule = self.arrive(rt, pass);
+        self.send(rt, alloc, pass, rule)
+    }
+
+    /// Dispatches, and notes on the locked rule how many batches went out. Nobody goes on before that.
+    fn send(
+        &self,
+        rt: &impl Wait,
+        alloc: Global,
+        pass: &mut Pass<L>,
+        rule: MutexGuard<'_, Gathering>,
+    ) -> Result<Vec<Job>, CallFault>
+        ensures made { IfOk result (λ jobs. WasMade L.service pass.old.trace call.Dispatch (reply.Sent jobs.items) pass.new.trace) }
+        ensures tickets { OnOk result (pass.new.trace.tickets ≡ pass.old.trace.tickets) }
+        ensures fault { IfErr result (WasRefused L.service pass.old.trace call.Dispatch None) }
+        ensures knows { IfErr result (KnowsStop pass.new.flags) }
+        ensures unchanged { OnErr result (pass.new.trace ≡ pass.old.trace) }
+    {
+        let sent = self.jobs(rt, alloc, pass);
+        let batches = match &sent {
+            Ok(jobs) => jobs.len(),
+            Err(_) => 0,
+        };
+        self.note_sent(rule, pass.caller(), batches);
+        sent
+    }
+
+    /// The event of a dispatch.
+    fn jobs(&self, rt: &impl Wait, alloc: Global, pass: &mut Pass<L>) -> Result<Vec<Job>, CallFault>
         ensures made { IfOk result (λ jobs. WasMade L.service pass.old.trace call.Dispatch (reply.Sent jobs.items) pass.new.trace) }
         ensures tickets { OnOk result (pass.new.trace.tickets ≡ pass.old.trace.tickets) }
         ensures fault { IfErr result (WasRefused L.service pass.old.trace call.Dispatch None) }

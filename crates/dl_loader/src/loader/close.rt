@@ -46,6 +46,7 @@ impl<L: LoaderName> Loader<L> {
             rows,
             book,
             waiters,
+            turns,
         } = self;
         let mut book = book.into_inner();
         match outlines(alloc, &rows, callers, &mut book, &mut passes) {
@@ -61,6 +62,7 @@ impl<L: LoaderName> Loader<L> {
                     rows,
                     book: Mutex::new(book),
                     waiters,
+                    turns,
                 };
                 Err((fault, loader, passes))
             }

@@ -8,13 +8,27 @@ use crate::threads::runs::PlanRun;
 use crate::threads::server::Server;
 use crate::threads::tasks::PlanTask;
 use dl_haxl::take_steps;
-use dl_loader::LoaderName;
+use dl_loader::{Loader, LoaderName};
 use dl_workers::JobQueue;
 use std::snapshot::Snapshot;
 use std::sync::Wait;
 use std::thread::{Promise, PromisedHandle, Scope};
 
-/// Takes the steps of a plan. If one meets a fault, stops the loader.
+/// Has the callers of all plans take part before a thread starts: so nobody sends before each of them has made its
+/// loads. A plan that is alone takes no part, since it has nobody to wait for.
+pub(crate) fn enter_plans<L: LoaderName>(
+    rt: &impl Wait,
+    loader: &Loader<L>,
+    plans: &[PlanTask<L>],
+) {
+    if plans.len() > 1 {
+        for task in plans {
+            loader.enter(rt, &task.pass);
+        }
+    }
+}
+
+/// Takes the steps of a plan. If one meets a fault, stops the loader. Else its caller takes no part any more.
 fn run_plan<L: LoaderName, S, G, R: Wait>(
     rt: &R,
     server: &Server<'_, L, S, G>,
@@ -45,6 +59,8 @@ fn run_plan<L: LoaderName, S, G, R: Wait>(
     );
     if given.is_err() {
         loader.stop(rt);
+    } else {
+        loader.leave(rt, &pass);
     }
     PlanRun {
         pass,

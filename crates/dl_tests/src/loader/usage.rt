@@ -57,7 +57,8 @@ fn start_threads<L: LoaderName + Send + Sync, S: Source + Sync, R: Threads + Wai
     );
 }
 
-/// One caller loads the key. If a call fails, it stops the loader, so that no other caller waits for ever.
+/// One caller takes part, loads the key, and takes part no more. If a call fails, it stops the loader, so that no other
+/// caller waits for ever.
 fn load_or_stop<L: LoaderName, S: Source, R: Wait>(
     rt: &R,
     alloc: Global,
@@ -68,12 +69,14 @@ fn load_or_stop<L: LoaderName, S: Source, R: Wait>(
 )
     requires { Answers (S.answer source.now) L.service }
 {
+    loader.enter(rt, pass);
     if load(rt, alloc, source, loader, pass, key).is_err() {
         loader.stop(rt);
     }
+    loader.leave(rt, pass);
 }
 
-/// Loads the key, ends each batch that has not gone out, and waits for the key's outcome.
+/// Loads the key, sends what is collected once nobody runs, ends what went out, and waits for the key's outcome.
 fn load<L: LoaderName, S: Source, R: Wait>(
     rt: &R,
     alloc: Global,
@@ -85,7 +88,7 @@ fn load<L: LoaderName, S: Source, R: Wait>(
     requires { Answers (S.answer source.now) L.service }
 {
     let mut ticket = loader.load(rt, alloc, pass, key)?;
-    let jobs = loader.dispatch(rt, alloc, pass)?;
+    let jobs = loader.gather(rt, alloc, pass)?;
     end_jobs(rt, alloc, loader, source, pass, jobs)?;
     loader.wait(rt, pass, &mut ticket)?;
     Ok(())

@@ -4,7 +4,7 @@ use crate::batches::{Batch, assert_batches, count_batches};
 use crate::stage::Stage;
 use crate::{answer_text, assert_is};
 use dl_desk::Limits;
-use dl_scope::{Report, ScopeFault, Setup, StepAnswer, serve};
+use dl_scope::{Policy, Report, ScopeFault, Setup, StepAnswer, serve};
 use dl_source::Source;
 use dl_workers::{Gate, Tally};
 use std::io::Eprint;
@@ -73,6 +73,7 @@ fn serve_row<S: Source + Sync, G: Gate + Sync, R: Abort + Eprint + Threads + Wai
         limits: limits.expect(rt, "no limits"),
         tables: None,
         workers,
+        policy: Policy::Eager,
         queue: row.queue,
         max_answer: None,
     };

@@ -1,5 +1,6 @@
 use Rattle.std.proofs.Common.{map}
 use Rattle.dl_history.specs.Accounts.{accounts_of}
+use Rattle.dl_loader.proofs.Naming.{source_of_named}
 use Rattle.dl_scope.proofs.Headlines.{headline_of, unfetched_of}
 use Rattle.dl_scope.proofs.LateRefusals.{close_refused}
 use Rattle.dl_scope.proofs.scope.serve_at.Goals as goal
@@ -22,3 +23,6 @@ pub returns-in-Err-clause-refused : goal.returns-in-Err-clause-refused
 returns-in-Err-clause-refused g c =
     close_refused g.L.LoaderName.service c.args.setup.now c.args.plans.items (accounts_of c.in_ok-served.served.passes.items) _ c.in_ok-served.ensures.accepted
     c.in-Err.ensures.fault
+
+pub serve_by-requires-clause-source : goal.serve_by-requires-clause-source
+serve_by-requires-clause-source g c lives outlives = source_of_named _ _ _ _ _ _ _ c.requires.source c.requires.names

@@ -54,9 +54,9 @@ returns-in_err-jobs g c =
       front = IfOk-from_err _ _ err;
       bound = IfOk-from_err _ _ err;
       sent = none_sent (g.O.Outlet.sent_by c.args.seat.now);
-      older = keeps_after old loaded c.dispatch.new.pass.trace
+      older = keeps_after old loaded c.gather.new.pass.trace
           (keeps_made s old loaded (LoadMany c.args.wanted.now) (Many replies) c.in_ok-tickets.ensures.made)
-          (keeps_same loaded c.dispatch.new.pass.trace (ap (λ (p : Trace). p.tickets) c.in_err-jobs.ensures.unchanged));
+          (keeps_same loaded c.gather.new.pass.trace (ap (λ (p : Trace). p.tickets) c.in_err-jobs.ensures.unchanged));
       fault =
           (let p = err_from_is_err_and c.from_residual-in_err-jobs.result c.from_residual-in_err-jobs.ensures.1 in
           rw (p.1, p.2) (loaded, Dispatch, None, loads.0, c.in_err-jobs.ensures.fault, c.in_err-jobs.ensures.knows));
@@ -68,7 +68,7 @@ pub returns-in_err-give_out : goal.returns-in_err-give_out
 returns-in_err-give_out g c =
     let s : Service = g.L.LoaderName.service in
     let old = c.args.pass.now.trace in
-    let dispatched = c.dispatch.new.pass.trace in
+    let dispatched = c.gather.new.pass.trace in
     let replies = map reply_of c.in_ok-tickets.tickets.items in
     let sent = two_grow s old c.load_many.new.pass.trace dispatched (LoadMany c.args.wanted.now) Dispatch (Many replies) (Sent c.in_ok-jobs.jobs.items)
     c.in_ok-tickets.ensures.made c.in_ok-jobs.ensures.made in
@@ -107,7 +107,7 @@ pub returns-in_err-read_each : goal.returns-in_err-read_each
 returns-in_err-read_each g c =
     let s : Service = g.L.LoaderName.service in
     let old = c.args.pass.now.trace in
-    let dispatched = c.dispatch.new.pass.trace in
+    let dispatched = c.gather.new.pass.trace in
     let ended = c.give_out.new.pass.trace in
     let replies = map reply_of c.in_ok-tickets.tickets.items in
     let sent = two_grow s old c.load_many.new.pass.trace dispatched (LoadMany c.args.wanted.now) Dispatch (Many replies) (Sent c.in_ok-jobs.jobs.items)
@@ -146,7 +146,7 @@ returns g c =
     let ws = c.read_each.new.tickets in
     let steps : Steps g.O.Outlet.jobs_end s old new before after wanted v.items ws = record {
       loaded = c.load_many.new.pass.trace;
-      dispatched = c.dispatch.new.pass.trace;
+      dispatched = c.gather.new.pass.trace;
       ended = c.give_out.new.pass.trace;
       jobs = c.in_ok-jobs.jobs.items;
       load = c.in_ok-tickets.ensures.made;
