@@ -1,6 +1,7 @@
 //! What the words of the command line ask for.
 
 use dl_desk::LARGEST_LIMIT;
+use dl_scope::Policy;
 use thiserror::Error;
 
 /// What the program runs.
@@ -20,6 +21,21 @@ pub(crate) enum Workload {
     Shared(Callers),
     /// Evaluates terms over a shared loader.
     Terms(Evaluated),
+    /// Serves plans that make loads one after another, all at once, over a source that takes time.
+    Gathered(Gathered),
+}
+
+/// Plans over a source that takes time.
+#[derive(Clone, Copy)]
+pub(crate) struct Gathered {
+    pub(crate) plans: u32,
+    pub(crate) workers: u32,
+    /// How many microseconds a fetch takes.
+    pub(crate) micros: u32,
+    /// Whether every fourth load is from a table of which a fetch takes longer.
+    pub(crate) has_slow: bool,
+    /// When plans that have made their loads send them.
+    pub(crate) policy: Policy,
 }
 
 /// The number of tables of the keys, and the rule for tables in a batch.
@@ -115,7 +131,8 @@ static WORKLOADS: [(&str, Option<u32>, Workload); 14] = [
 #[derive(Clone, Copy)]
 pub(crate) struct Command {
     pub(crate) workload: Workload,
-    /// The number of keys, for `hot` of each caller; for `terms` of parts, and for `inline` and `serve` of rounds.
+    /// The number of keys, for `hot` of each caller; for `terms` of parts, for `inline` and `serve` of rounds, and for
+    /// `gather` of the loads of a plan.
     pub(crate) keys: u32,
     /// The most keys of a batch; for `threads` and `hot` the number of callers.
     pub(crate) most: u32,
@@ -124,9 +141,9 @@ pub(crate) struct Command {
 /// Why words aren't a command.
 #[derive(Debug, Drop, Error)]
 pub(crate) enum CommandFault {
-    #[error("usage: dl_bench loads|many|rounds|tables|loader N B, hostile|harmless[-tables] N, hits|clears|terms N, threads|hot N C, tables-of|mixed-of T N, inline P N, or serve P W N")]
+    #[error("usage: dl_bench loads|many|rounds|tables|loader N B, hostile|harmless[-tables] N, hits|clears|terms N, threads|hot N C, tables-of|mixed-of T N, inline P N, serve P W N, or gather[-tables|-rounds] P D W L")]
     Usage,
-    #[error("N, B, C, P, T and W are numbers from 1 to 65536, the largest limit of a loader")]
+    #[error("N, B, C, P, T, D, W and L are numbers from 1 to 65536, the largest limit of a loader")]
     Size,
 }
 
@@ -143,7 +160,32 @@ impl Command {
                 let evaluated = Evaluated::Served { count, workers };
                 Ok(Command::of_terms(evaluated, size(rounds.as_str())?))
             }
+            [_, name, plans, loads, workers, micros] => {
+                let (has_slow, policy) = match name.as_str() {
+                    "gather" => (false, Policy::Eager),
+                    "gather-tables" => (true, Policy::Eager),
+                    "gather-rounds" => (true, Policy::Rounds),
+                    _ => return Err(CommandFault::Usage),
+                };
+                let gathered = Gathered {
+                    plans: size(plans.as_str())?,
+                    workers: size(workers.as_str())?,
+                    micros: size(micros.as_str())?,
+                    has_slow,
+                    policy,
+                };
+                Ok(Command::of_gathered(gathered, size(loads.as_str())?))
+            }
             _ => Err(CommandFault::Usage),
+        }
+    }
+
+    /// The command of plans that make this many loads each.
+    fn of_gathered(gathered: Gathered, loads: u32) -> Command {
+        Command {
+            workload: Workload::Gathered(gathered),
+            keys: loads,
+            most: BATCH,
         }
     }
 

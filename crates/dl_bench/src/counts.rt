@@ -5,7 +5,7 @@ use dl_loader::{EndedBatch, EntryKind, History};
 use dl_source::BatchAnswer;
 
 /// The numbers of loads that began a cell, of hits, of batches, of jobs, of settled batches, and of outcomes that it
-/// fetched or read; and the batch of the newest cell.
+/// fetched or read; the batch of the newest cell; and how many microseconds it took, if the source takes time.
 #[derive(Default, Drop)]
 pub(crate) struct Counts {
     pub(crate) cells: u64,
@@ -15,6 +15,7 @@ pub(crate) struct Counts {
     pub(crate) settled: u64,
     pub(crate) outcomes: u64,
     pub(crate) last_batch: Option<u32>,
+    pub(crate) micros: Option<u64>,
 }
 
 impl Counts {

@@ -1,5 +1,6 @@
 //! A stopwatch without a clock: it runs one workload on a desk or a shared loader, for you to measure from outside, and
-//! prints counts of what it did. The same words always print the same counts. The proof is that it is safe; no contract
+//! prints counts of what it did. The same words always print the same counts. Only over a source that takes time does it
+//! look at a clock, and prints the microseconds too. The proof is that it is safe; no contract
 //! says what it counts.
 #![tactic(auto)]
 
@@ -7,6 +8,7 @@ mod alike;
 mod command;
 mod counts;
 mod desk;
+mod gather;
 mod ids;
 mod keys;
 mod plans;
@@ -28,9 +30,10 @@ use std::io::Print;
 use std::random::RandomSource;
 use std::sync::Wait;
 use std::thread::Threads;
+use std::time::Clock;
 
 /// Runs a workload, and counts what it did.
-fn run<R: RandomSource + Threads + Wait + Sync>(
+fn run<R: Clock + RandomSource + Threads + Wait + Sync>(
     rt: &R,
     alloc: Global,
     command: Command,
@@ -57,6 +60,10 @@ fn run<R: RandomSource + Threads + Wait + Sync>(
         Workload::Terms(evaluated) => {
             let scene = Scene { rt, alloc, hashing };
             evaluate(&scene, counts, evaluated, keys, most)
+        }
+        Workload::Gathered(gathered) => {
+            let scene = Scene { rt, alloc, hashing };
+            gather::served(&scene, counts, gathered, keys, most)
         }
     }
 }
@@ -115,6 +122,9 @@ fn print(rt: &impl Print, counts: &Counts) -> Result<()> {
         ("outcomes", counts.outcomes),
     ] {
         println!(rt; "{name} {count}")?;
+    }
+    if let Some(micros) = counts.micros {
+        println!(rt; "micros {micros}")?;
     }
     Ok(())
 }

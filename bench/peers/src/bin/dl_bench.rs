@@ -4,11 +4,12 @@ use peers as peer;
 use peers::document::read_tables;
 use peers::serve::{self, Step};
 use peers::term::{evaluate_inline, Term};
+use std::time::{Duration, Instant};
 
 include!("../workloads.rs");
 
 const USAGE: &str =
-    "usage: dl_bench loads|many|rounds|tables|loader N B, hits|clears|terms N, threads|hot N C, inline P N, or serve P W N";
+    "usage: dl_bench loads|many|rounds|tables|loader N B, hits|clears|terms N, threads|hot N C, inline P N, serve P W N, or gather P D W L";
 
 /// The parts of a term of which there are several, and the rounds of one that is the only one.
 const PARTS: u32 = 16;
@@ -73,6 +74,30 @@ fn served(counts: &mut Counts, terms: Terms, workers: u32) {
     counts.history(&report.expect("a report").history);
 }
 
+// ---- plans over a source that takes time
+
+/// A source that takes time, and then answers every key `null`.
+struct Slow(Duration);
+
+impl Source for Slow {
+    fn fetch(&self, keys: &[Key]) -> BatchAnswer {
+        thread::sleep(self.0);
+        Alike(Arc::new(Value::Null)).fetch(keys)
+    }
+}
+
+/// Serves plans that each make this many loads one after another. Each plan dispatches right after each of its loads: there is no rule.
+fn gathered(counts: &mut Counts, plans: u32, loads: u32, workers: u32, micros: u32) {
+    let load = |number: u32| Step::Eval(Term::Load(Key::new("users", &number.to_string()).expect("a short id")));
+    let plan_of = |plan: u32| (plan * loads..(plan + 1) * loads).map(load).collect();
+    let plans = (0..plans).map(plan_of).collect();
+    let source = Slow(Duration::from_micros(micros.into()));
+    let begins = Instant::now();
+    let report = serve::serve(&source, Limits::of_batch(BATCH), workers, plans).expect("a report");
+    counts.micros = Some(begins.elapsed().as_micros());
+    counts.history(&report.history);
+}
+
 /// Runs the workload that words ask for.
 fn run(counts: &mut Counts, words: &[&str]) -> Option<()> {
     let many_rounds = |count, rounds| Terms { count, parts: PARTS, rounds };
@@ -81,6 +106,7 @@ fn run(counts: &mut Counts, words: &[&str]) -> Option<()> {
         ["terms", n] => evaluated(counts, Terms { count: 1, parts: size(n)?, rounds: ROUNDS }).expect("room"),
         ["inline", p, n] => evaluated(counts, many_rounds(size(p)?, size(n)?)).expect("room"),
         ["serve", p, w, n] => served(counts, many_rounds(size(p)?, size(n)?), size(w)?),
+        ["gather", p, d, w, l] => gathered(counts, size(p)?, size(d)?, size(w)?, size(l)?),
         _ => return run_of_both(counts, words),
     }
     Some(())
